@@ -1,0 +1,148 @@
+// What fails at chosen calls.
+ghost use Rattle.std.specs.Prelude.{◌≡◌, ◌≤◌, ◌<◌, ◌+◌, ◌↔◌, length, take, IfOk, IfSome, IsErr, IsErrOf, IsTrue, OnErr};
+ghost use Rattle.cc_base.specs.Failing.{CountsCall, IsListed};
+ghost use Rattle.cc_base.specs.Outside.{HasCause, HasRisen, IsNext, after, appended};
+
+use crate::{Failed, FileFault, Files, Sink, Source};
+use std::alloc::Global;
+
+/// The calls that are to fail, those that were made, and how many of them failed.
+#[derive(Drop)]
+pub struct FailingCalls {
+    listed: Vec<u64>,
+    made: u64,
+    faults: u64,
+}
+
+impl FailingCalls {
+    fn new(listed: Vec<u64>) -> Self
+        ensures { result ≡ record { listed = listed; made = 0; faults = 0 } }
+    {
+        FailingCalls {
+            listed,
+            made: 0,
+            faults: 0,
+        }
+    }
+
+    // Counts a call, and answers whether it is to fail. Then it is a fault too.
+    fn next_fails(&mut self) -> bool
+        ensures listed { IsTrue result ↔ IsListed self.old }
+        ensures counts { CountsCall self.old self.new }
+        ensures later { self.old.faults ≤ self.new.faults }
+        ensures risen { IsTrue result → HasRisen self.old.faults self.new.faults }
+    {
+        let fails = self.listed.contains(&self.made);
+        self.made = self.made.saturating_add(1);
+        if fails {
+            self.faults = self.faults.saturating_add(1);
+        }
+        fails
+    }
+}
+
+/// A source, a sink or files, of which some calls fail. Those do not reach what is inside.
+///
+/// The faults are those of what is inside, and one for each call that was made to fail.
+#[derive(Drop)]
+pub struct Failing<T> {
+    inner: T,
+    calls: FailingCalls,
+}
+
+impl<T> Failing<T> {
+    /// The calls with these numbers are to fail. The first call has the number 0, and an empty list lets every call
+    /// through.
+    pub fn new(inner: T, calls: Vec<u64>) -> Self
+        ensures inner { result.inner ≡ inner }
+        ensures listed { result.calls.listed.items ≡ calls.items }
+        ensures made { result.calls.made ≡ 0 }
+        ensures faults { result.calls.faults ≡ 0 }
+    {
+        Failing {
+            inner,
+            calls: FailingCalls::new(calls),
+        }
+    }
+
+    /// What is inside.
+    pub fn inner(&self) -> &T
+        ensures { result.now ≡ self.now.inner }
+    {
+        &self.inner
+    }
+}
+
+impl<T: Source> Source for Failing<T> {
+    ghost faults = { λ f. T.faults f.inner + f.calls.faults };
+
+    ghost left = { λ f. T.left f.inner };
+
+    ghost beside = { λ f. T.beside f.inner };
+
+    fn read(&mut self, buf: &mut [u8]) -> Result<usize, Failed>
+        requires { 0 < length buf.old }
+        ensures fails { IsListed self.old.calls → IsErr result }
+        ensures kept { IsListed self.old.calls → self.new.inner ≡ self.old.inner }
+        ensures counts { CountsCall self.old.calls self.new.calls }
+        ensures cause { HasCause (⟦<Self as Source>⟧.faults self.old) (⟦<Self as Source>⟧.faults self.new) result }
+        ensures fits { IfOk result (λ n. n ≤ length buf.new) }
+        ensures next { IfOk result (λ n. IfSome (T.left self.old.inner) (λ told. IsNext n buf.new told)) }
+        ensures left { IfOk result (λ n. T.left self.new.inner ≡ after n (T.left self.old.inner)) }
+        ensures failed { OnErr result (T.left self.new.inner ≡ T.left self.old.inner) }
+        ensures beside { T.beside self.new.inner ≡ T.beside self.old.inner }
+    {
+        if self.calls.next_fails() {
+            return Err(Failed);
+        }
+        self.inner.read(buf)
+    }
+}
+
+impl<T: Sink> Sink for Failing<T> {
+    ghost faults = { λ f. T.faults f.inner + f.calls.faults };
+
+    ghost written = { λ f. T.written f.inner };
+
+    ghost beside = { λ f. T.beside f.inner };
+
+    fn write(&mut self, bytes: &[u8]) -> Result<usize, Failed>
+        ensures fails { IsListed self.old.calls → IsErr result }
+        ensures kept { IsListed self.old.calls → self.new.inner ≡ self.old.inner }
+        ensures counts { CountsCall self.old.calls self.new.calls }
+        ensures cause { HasCause (⟦<Self as Sink>⟧.faults self.old) (⟦<Self as Sink>⟧.faults self.new) result }
+        ensures fits { IfOk result (λ n. n ≤ length bytes.now) }
+        ensures some { IfOk result (λ n. 0 < length bytes.now → 0 < n) }
+        ensures written { IfOk result (λ n. T.written self.new.inner ≡ appended (T.written self.old.inner) (take n bytes.now)) }
+        ensures failed { OnErr result (T.written self.new.inner ≡ T.written self.old.inner) }
+        ensures beside { T.beside self.new.inner ≡ T.beside self.old.inner }
+    {
+        if self.calls.next_fails() {
+            return Err(Failed);
+        }
+        self.inner.write(bytes)
+    }
+}
+
+impl<T: Files> Files for Failing<T> {
+    ghost faults = { λ f. T.faults f.inner + f.calls.faults };
+
+    ghost contents = { λ f. T.contents f.inner };
+
+    fn load(&mut self, alloc: Global, name: &str) -> Result<Vec<u8>, FileFault>
+        ensures fails { IsListed self.old.calls → IsErrOf result FileFault.Failed }
+        ensures kept { IsListed self.old.calls → self.new.inner ≡ self.old.inner }
+        ensures counts { CountsCall self.old.calls self.new.calls }
+        ensures later { ⟦<Self as Files>⟧.faults self.old ≤ ⟦<Self as Files>⟧.faults self.new }
+        ensures cause { IsErrOf result FileFault.Failed
+            → HasRisen (⟦<Self as Files>⟧.faults self.old) (⟦<Self as Files>⟧.faults self.new) }
+        ensures bytes { IfOk result (λ v. IfSome (T.contents self.old.inner name.now) (λ told. v.items ≡ told)) }
+        ensures long { IfOk result (λ v. length v.items ≤ 67108864) }
+        ensures contents { T.contents self.new.inner ≡ T.contents self.old.inner }
+    {
+        if self.calls.next_fails() {
+            return Err(FileFault::Failed);
+        }
+        self.inner.load(alloc, name)
+    }
+}

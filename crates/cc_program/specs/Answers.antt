@@ -1,0 +1,38 @@
+-- What is written for a cluster: the text of a plan, or of the goal that fails.
+use Rattle.std.specs.Prelude.{◌≡◌, ℕ, List, [], ◌∷◌, ◌++◌, get_or, codes, decimal}
+use Rattle.serde_json.specs.Data.{string, object, member, no_members}
+use Rattle.serde_json.specs.Written.{compact_text}
+use Rattle.plan_terms.specs.Change.{proposals}
+use Rattle.plan_terms.specs.Cluster.{Cluster}
+use Rattle.plan_terms.specs.Goal.{Meaning}
+use Rattle.plan_terms.specs.Racks.{rack_goal}
+use Rattle.plan_terms.specs.Trace.{Planned, Failed, after_turns}
+use Rattle.plan_terms.specs.declared.actions.Action.{Action}
+use Rattle.proposal_set.specs.Text.{reassignment_text}
+use Rattle.cc_program.specs.Thin.{ClusterLists}
+
+-- the goals, in order of priority
+abbrev pub goals_of : Cluster → List Meaning
+goals_of c = rack_goal c ∷ []
+
+-- and their names
+abbrev pub goal_names : List (List ℕ)
+goal_names = codes "RackAwareGoal" ∷ []
+
+-- the JSON of a goal that failed, with its measure as a text
+unfoldable pub failure_text : List ℕ → ℕ → List ℕ
+failure_text name left = compact_text (object (member (codes "failed") (string name) (member (codes "measure") (string (decimal left)) no_members)))
+
+-- the text of a plan's proposals, and a line feed
+pub record IsPlanText (file : ClusterLists) (text : List ℕ) : Type 0 where
+  pub turns : List (List Action)
+  pub planned : Planned file.cluster (goals_of file.cluster) file.lists turns
+  pub spelled : text ≡ reassignment_text file.cluster.parts (proposals file.lists (after_turns turns file.lists)) ++ 10 ∷ []
+
+-- the text of a failure: the goal at its place and its measure, and a line feed
+pub record IsFailureText (file : ClusterLists) (text : List ℕ) : Type 0 where
+  pub turns : List (List Action)
+  pub place : ℕ
+  pub left : ℕ
+  pub failed : Failed file.cluster (goals_of file.cluster) file.lists turns place left
+  pub spelled : text ≡ failure_text (get_or goal_names place []) left ++ 10 ∷ []

@@ -1,0 +1,71 @@
+-- How a run ends, and what each end tells.
+use Rattle.std.specs.Prelude.{◌≡◌, ◌≢◌, ◌⊎◌, ℕ, List, [], ◌∷◌, ◌++◌, codes, Option, None, IfSome, Result, Ok, Err}
+use Rattle.cc_base.specs.Outside.{HasRisen, appended, IsPrefixOut}
+use Rattle.cc_program.specs.Thin.{ClusterLists, Means}
+use Rattle.cc_program.specs.Words.{command}
+use Rattle.cc_program.specs.Views.{cluster_lists}
+use Rattle.cc_program.specs.Answers.{IsPlanText, IsFailureText}
+use Rattle.cc_program.specs.Quiet.{IsRefused, IsAnswer, IsRefusal}
+use Rattle.cc_program.specs.declared.thin.Loaded.{Loaded}
+use Rattle.cc_program.specs.declared.quiet.Answer.{Answer}
+use Rattle.cc_program.specs.declared.quiet.Answer.TheVariants.{Plan, Failure}
+use Rattle.cc_program.specs.declared.quiet.LoadFault.{LoadFault}
+use Rattle.cc_program.specs.declared.quiet.LoadFault.TheVariants as fault
+use Rattle.cc_program.specs.declared.quiet.End.{End}
+use Rattle.cc_program.specs.declared.quiet.End.TheVariants.{Done, Usage, Refused, GoalFailed, FileFault, WriteFault, Memory}
+
+-- what was loaded is what the file means, where its bytes are told; a refusal says that they mean nothing; a fault was counted
+abbrev pub Loads : Option (List ℕ) → ℕ → ℕ → Result Loaded LoadFault → Type 0
+Loads told before now (Ok loaded) = IfSome told (λ bytes. Means bytes (cluster_lists loaded))
+Loads told before now (Err fault.Refused) = IfSome told IsRefused
+Loads told before now (Err fault.Failed) = HasRisen before now
+Loads told before now (Err fault.Memory) = Unit {0}
+
+-- the exit status
+abbrev pub status_of : End → ℕ
+status_of Done = 0
+status_of Usage = 2
+status_of Refused = 3
+status_of GoalFailed = 4
+status_of FileFault = 5
+status_of WriteFault = 7
+status_of Memory = 9
+
+-- the line on the error stream, ended by a line feed
+abbrev pub line_of : End → List ℕ
+line_of Done = []
+line_of Usage = codes "usage error" ++ 10 ∷ []
+line_of Refused = codes "cluster refused: Unsupported" ++ 10 ∷ []
+line_of GoalFailed = codes "hard goal failed: RackAwareGoal" ++ 10 ∷ []
+line_of FileFault = codes "file fault" ++ 10 ∷ []
+line_of WriteFault = codes "write fault" ++ 10 ∷ []
+line_of Memory = codes "want of memory" ++ 10 ∷ []
+
+-- the counts of the files' faults and of the output's, and what is told to be written, before and after
+pub record Edge : Type 0 where
+  pub told : List ℕ → Option (List ℕ)
+  pub files_before : ℕ
+  pub files_now : ℕ
+  pub out_before : ℕ
+  pub out_now : ℕ
+  pub written_before : Option (List ℕ)
+  pub written_now : Option (List ℕ)
+
+-- what each end says of the words and the edge
+abbrev pub Runs : List (List ℕ) → Edge → End → Type 0
+Runs words e Done = (text : List ℕ) × IsAnswer words e.told (λ file. IsPlanText file text) × (e.written_now ≡ appended e.written_before text)
+Runs words e Usage = (command words ≡ None) × (e.written_now ≡ e.written_before)
+Runs words e Refused = IsRefusal words e.told × (e.written_now ≡ e.written_before)
+Runs words e GoalFailed = (text : List ℕ) × IsAnswer words e.told (λ file. IsFailureText file text) × (e.written_now ≡ appended e.written_before text)
+Runs words e FileFault = (command words ≢ None) × HasRisen e.files_before e.files_now × (e.written_now ≡ e.written_before)
+Runs words e WriteFault = (text : List ℕ) × IsAnswer words e.told (λ file. IsPlanText file text ⊎ IsFailureText file text) × HasRisen e.out_before e.out_now × IsPrefixOut e.written_before e.written_now text
+Runs words e Memory = (command words ≢ None) × (e.written_now ≡ e.written_before)
+
+-- a text in memory is that of a plan or of a failure
+abbrev pub IsText : ClusterLists → Answer → Type 0
+IsText file (Plan text) = IsPlanText file text.items
+IsText file (Failure text) = IsFailureText file text.items
+
+-- the line is out, or the stream's count of faults rose and a front of the line is out
+abbrev pub IsTold : List ℕ → Option (List ℕ) → Option (List ℕ) → ℕ → ℕ → Type 0
+IsTold line old new before now = (new ≡ appended old line) ⊎ (HasRisen before now × IsPrefixOut old new line)

@@ -1,0 +1,184 @@
+// The commands that wait for nobody.
+ghost use Rattle.std.specs.Prelude.{◌≡◌, ◌≢◌, ◌≤◌, ◌⊎◌, ◌↔◌, List, ℕ, map, Some, None, string_bytes, IfOk};
+ghost use Rattle.cc_base.specs.Outside.{HasRisen, appended, IsPrefixOut};
+ghost use Rattle.plan_terms.specs.Belongs.{Belongs};
+ghost use Rattle.cc_program.specs.Answers.{IsPlanText, IsFailureText};
+ghost use Rattle.cc_program.specs.Quiet.{IsRefused, IsAnswer, IsRefusal};
+ghost use Rattle.cc_program.specs.Runs.{Loads, Runs, IsTold, status_of, line_of};
+ghost use Rattle.cc_program.specs.Words.{command};
+ghost use Rattle.cc_program.specs.declared.quiet.End.{End};
+
+use crate::answers::answer;
+use crate::fault::ReadRefusal;
+use crate::thin::{Loaded, read_cluster};
+use crate::words::command;
+use cc_base::{FileFault, Files, Sink, Source, write_all_of};
+use std::alloc::Global;
+use std::thread::Threads;
+
+/// Why a file was not loaded.
+#[derive(Clone, Copy, Debug, PartialEq, Eq)]
+pub enum LoadFault {
+    Refused,
+    Failed,
+    Memory,
+}
+
+/// How a run ended.
+#[derive(Clone, Copy, Debug, PartialEq, Eq)]
+pub enum End {
+    Done,
+    Usage,
+    Refused,
+    GoalFailed,
+    FileFault,
+    WriteFault,
+    Memory,
+}
+
+/// A text, whole in memory.
+#[derive(Drop)]
+pub enum Answer {
+    Plan(Vec<u8>),
+    Failure(Vec<u8>),
+}
+
+fn load<F: Files>(alloc: Global, files: &mut F, name: &str) -> Result<Loaded, LoadFault>
+    ensures later { F.faults files.old ≤ F.faults files.new }
+    ensures loads { Loads (F.contents files.old name.now) (F.faults files.old) (F.faults files.new) result }
+    ensures belongs { IfOk result (λ loaded. Belongs loaded.case loaded.lists) }
+{
+    match files.load(alloc, name) {
+        Ok(bytes) => match read_cluster(alloc, &bytes) {
+            Ok(loaded) => Ok(loaded),
+            Err(ReadRefusal::Refused) => Err(LoadFault::Refused),
+            Err(ReadRefusal::Memory) => Err(LoadFault::Memory),
+        },
+        Err(FileFault::Failed) => Err(LoadFault::Failed),
+        Err(FileFault::Memory) => Err(LoadFault::Memory),
+    }
+}
+
+fn run<F: Files, O: Sink>(alloc: Global, words: &[String], files: &mut F, out: &mut O) -> End
+    ensures files { F.faults files.old ≤ F.faults files.new }
+    ensures out { O.faults out.old ≤ O.faults out.new }
+    ensures runs { Runs (map string_bytes words.now) (record {
+      told = F.contents files.old;
+      files_before = F.faults files.old;
+      files_now = F.faults files.new;
+      out_before = O.faults out.old;
+      out_now = O.faults out.new;
+      written_before = O.written out.old;
+      written_now = O.written out.new;
+    }) result }
+{
+    let Some(name) = command(words) else {
+        return End::Usage;
+    };
+    let loaded = match load(alloc, files, name) {
+        Ok(loaded) => loaded,
+        Err(LoadFault::Refused) => return End::Refused,
+        Err(LoadFault::Failed) => return End::FileFault,
+        Err(LoadFault::Memory) => return End::Memory,
+    };
+    let Ok(answer) = answer(alloc, &loaded) else {
+        return End::Memory;
+    };
+    match answer {
+        Answer::Plan(text) => match write_all_of(out, &text) {
+            Ok(()) => End::Done,
+            Err(_) => End::WriteFault,
+        },
+        Answer::Failure(text) => match write_all_of(out, &text) {
+            Ok(()) => End::GoalFailed,
+            Err(_) => End::WriteFault,
+        },
+    }
+}
+
+fn status(end: End) -> u8
+    ensures { result ≡ status_of end }
+{
+    match end {
+        End::Done => 0,
+        End::Usage => 2,
+        End::Refused => 3,
+        End::GoalFailed => 4,
+        End::FileFault => 5,
+        End::WriteFault => 7,
+        End::Memory => 9,
+    }
+}
+
+fn line(end: End) -> &'static [u8]
+    ensures { result.now ≡ line_of end }
+{
+    match end {
+        End::Done => b"",
+        End::Usage => b"usage error\n",
+        End::Refused => b"cluster refused: Unsupported\n",
+        End::GoalFailed => b"hard goal failed: RackAwareGoal\n",
+        End::FileFault => b"file fault\n",
+        End::WriteFault => b"write fault\n",
+        End::Memory => b"want of memory\n",
+    }
+}
+
+// Writes the end's line. A fault there changes nothing else.
+fn tell<O: Sink>(err: &mut O, end: End)
+    ensures told { IsTold (line_of end) (O.written err.old) (O.written err.new) (O.faults err.old) (O.faults err.new) }
+    ensures later { O.faults err.old ≤ O.faults err.new }
+{
+    match write_all_of(err, line(end)) {
+        Ok(()) => {}
+        Err(_) => {}
+    }
+}
+
+/// Runs a command that waits for nobody, and answers the exit status: 0 for a plan, 2 for words that are no command,
+/// 3 for a file that is refused, 4 for a hard goal that fails, 5 for a fault of the files, 7 for a fault of the output
+/// and 9 for want of memory. The answer goes to `out` once it is whole in memory, one line on any other end to `err`;
+/// what becomes of that line changes nothing.
+///
+/// What is said of contents holds where `files` and `out` tell them, as those over memory do.
+pub fn run_quiet<R: Threads + Sync, F: Files, I: Source, O: Sink>(
+    _rt: &R,
+    alloc: Global,
+    words: &[String],
+    files: &mut F,
+    _input: &mut I,
+    out: &mut O,
+    err: &mut O,
+) -> u8
+    // 0: the output grew by the text of a plan for what the file means.
+    ensures planned { result ≡ 0 → (text : List ℕ) × IsAnswer (map string_bytes words.now) (F.contents files.old) (λ file. IsPlanText file text)
+        × (O.written out.new ≡ appended (O.written out.old) text) }
+    // 4: the output grew by the text of a failure for what the file means.
+    ensures failed { result ≡ 4 → (text : List ℕ) × IsAnswer (map string_bytes words.now) (F.contents files.old) (λ file. IsFailureText file text)
+        × (O.written out.new ≡ appended (O.written out.old) text) }
+    // 2: exactly where the words are no command.
+    ensures usage { (result ≡ 2) ↔ (command (map string_bytes words.now) ≡ None) }
+    // 3: only where the file has no meaning, and there unless the files or memory fail.
+    ensures refused { result ≡ 3 → IsRefusal (map string_bytes words.now) (F.contents files.old) }
+    ensures refuses { (name bytes : List ℕ) → command (map string_bytes words.now) ≡ Some name → F.contents files.old name ≡ Some bytes
+        → IsRefused bytes → (result ≡ 3) ⊎ (result ≡ 5) ⊎ (result ≡ 9) }
+    // 5: only where the files' count rose.
+    ensures files { result ≡ 5 → HasRisen (F.faults files.old) (F.faults files.new) }
+    // 7: only where the output's count rose. A front of the text is out.
+    ensures output { result ≡ 7 → HasRisen (O.faults out.old) (O.faults out.new) }
+    ensures prefix { result ≡ 7 → (text : List ℕ) × IsAnswer (map string_bytes words.now) (F.contents files.old) (λ file. IsPlanText file text ⊎ IsFailureText file text)
+        × IsPrefixOut (O.written out.old) (O.written out.new) text }
+    // Nothing else is written, and there is no other status.
+    ensures silent { result ≢ 0 → result ≢ 4 → result ≢ 7 → O.written out.new ≡ O.written out.old }
+    ensures statuses { (result ≡ 0) ⊎ (result ≡ 2) ⊎ (result ≡ 3) ⊎ (result ≡ 4) ⊎ (result ≡ 5) ⊎ (result ≡ 7) ⊎ (result ≡ 9) }
+    // The status's line goes to the error stream, or a front of it where that fails.
+    ensures line { (end : End) × (result ≡ status_of end) × IsTold (line_of end) (O.written err.old) (O.written err.new) (O.faults err.old) (O.faults err.new) }
+    // Counts never fall.
+    ensures files_later { F.faults files.old ≤ F.faults files.new }
+    ensures out_later { O.faults out.old ≤ O.faults out.new }
+    ensures err_later { O.faults err.old ≤ O.faults err.new }
+{
+    let end = run(alloc, words, files, out);
+    tell(err, end);
+    status(end)
+}

@@ -1,0 +1,163 @@
+// One goal's turn.
+ghost use Rattle.std.specs.Prelude.{◌≡◌, ◌≤◌, ◌↔◌, true, IsTrue, IfOk, MatchOption, map, length};
+ghost use Rattle.std.specs.List.{All, filter};
+ghost use Rattle.plan_terms.specs.Belongs.{Belongs};
+ghost use Rattle.plan_terms.specs.Effect.{after_all};
+ghost use Rattle.plan_terms.specs.Fits.{fits, targets_known};
+ghost use Rattle.plan_terms.specs.Legal.{is_legal};
+ghost use Rattle.plan_terms.specs.Trace.{AllAccept, IsUnhelpful, NoneLeft, Step, Turn};
+ghost use Rattle.cc_program.specs.Kinds.{candidates_of, legal_below};
+
+use load_model::{Case, LoadBook, Memory};
+use move_actions::{Action, Actions, Goal, Moves, legal_leads, legal_moves, legal_swaps, measure};
+use std::alloc::Global;
+
+/// The kinds of action.
+#[derive(Clone, Copy)]
+pub enum Kind {
+    Moves,
+    Leads,
+    Swaps,
+}
+
+fn all_accept<G: Goal>(case: &Case, book: &LoadBook, earlier: &[G], action: Action) -> bool
+    requires made { All (λ g. G.made_for g case.now) earlier.now }
+    requires belongs { Belongs case.now book.now }
+    requires applies { IsTrue (fits book.now action) }
+    requires known { IsTrue (targets_known case.now action) }
+    ensures { IsTrue result ↔ AllAccept (map (λ g. G.meaning g case.now) earlier.now) book.now action }
+{
+    for goal in earlier {
+        if !goal.accepts(case, book, action) {
+            return false;
+        }
+    }
+    true
+}
+
+// The first of some legal actions that the earlier goals accept and that lessens the goal.
+fn first_step<G: Goal>(
+    case: &Case,
+    book: &LoadBook,
+    earlier: &[G],
+    goal: &G,
+    actions: &[Action],
+) -> Option<Action>
+    requires made { All (λ g. G.made_for g case.now) earlier.now }
+    requires made_goal { G.made_for goal.now case.now }
+    requires belongs { Belongs case.now book.now }
+    requires legal { All (λ a. is_legal case.now book.now a ≡ true) actions.now }
+    ensures { MatchOption result
+        (All (IsUnhelpful (map (λ g. G.meaning g case.now) earlier.now) (G.meaning goal.now case.now) book.now) actions.now)
+        (λ a. Step case.now (map (λ g. G.meaning g case.now) earlier.now) (G.meaning goal.now case.now) book.now a) }
+{
+    for action in actions {
+        if all_accept(case, book, earlier, *action) && goal.lessens(case, book, *action) {
+            return Some(*action);
+        }
+    }
+    None
+}
+
+// The legal actions of one kind in one partition.
+fn legal_of(
+    alloc: Global,
+    kind: Kind,
+    case: &Case,
+    book: &LoadBook,
+    part: u32,
+) -> Result<Vec<Action>, Memory>
+    ensures { IfOk result (λ v. v.items ≡ filter (is_legal case.now book.now) (candidates_of kind case.now.brokers (length book.now) part)) }
+{
+    match kind {
+        Kind::Moves => legal_moves(alloc, case, book.lists(), part),
+        Kind::Leads => legal_leads(alloc, case, book.lists(), part),
+        Kind::Swaps => legal_swaps(alloc, case, book.lists(), part),
+    }
+}
+
+// The first action of one kind that serves. No more than one partition's actions are held at a time.
+fn next_of_kind<G: Goal>(
+    alloc: Global,
+    kind: Kind,
+    case: &Case,
+    book: &LoadBook,
+    earlier: &[G],
+    goal: &G,
+) -> Result<Option<Action>, Memory>
+    requires made { All (λ g. G.made_for g case.now) earlier.now }
+    requires made_goal { G.made_for goal.now case.now }
+    requires belongs { Belongs case.now book.now }
+    ensures { IfOk result (λ next. MatchOption next
+        (All (IsUnhelpful (map (λ g. G.meaning g case.now) earlier.now) (G.meaning goal.now case.now) book.now) (legal_below kind case.now book.now (length book.now) (length book.now)))
+        (λ a. Step case.now (map (λ g. G.meaning g case.now) earlier.now) (G.meaning goal.now case.now) book.now a)) }
+{
+    let end = book.lists().len() as u32;
+    for part in 0..end {
+        let actions = legal_of(alloc, kind, case, book, part)?;
+        if let Some(action) = first_step(case, book, earlier, goal, &actions) {
+            return Ok(Some(action));
+        }
+    }
+    Ok(None)
+}
+
+// The first legal action that the earlier goals accept and that lessens the goal.
+fn next_action<G: Goal>(
+    alloc: Global,
+    case: &Case,
+    book: &LoadBook,
+    earlier: &[G],
+    goal: &G,
+) -> Result<Option<Action>, Memory>
+    requires made { All (λ g. G.made_for g case.now) earlier.now }
+    requires made_goal { G.made_for goal.now case.now }
+    requires belongs { Belongs case.now book.now }
+    ensures { IfOk result (λ next. MatchOption next
+        (NoneLeft case.now (map (λ g. G.meaning g case.now) earlier.now) (G.meaning goal.now case.now) book.now)
+        (λ a. Step case.now (map (λ g. G.meaning g case.now) earlier.now) (G.meaning goal.now case.now) book.now a)) }
+{
+    let next_move = next_of_kind(alloc, Kind::Moves, case, book, earlier, goal)?;
+    if let Some(action) = next_move {
+        return Ok(Some(action));
+    }
+    let next_lead = next_of_kind(alloc, Kind::Leads, case, book, earlier, goal)?;
+    if let Some(action) = next_lead {
+        return Ok(Some(action));
+    }
+    let next_swap = next_of_kind(alloc, Kind::Swaps, case, book, earlier, goal)?;
+    if let Some(action) = next_swap {
+        return Ok(Some(action));
+    }
+    Ok(None)
+}
+
+/// Takes the turn of a goal: one action after another that the earlier goals accept and that lessens it, up to lists at
+/// which it is met or no such action is left.
+pub fn take_turn<G: Goal>(
+    alloc: Global,
+    case: &Case,
+    book: &mut LoadBook,
+    earlier: &[G],
+    goal: &G,
+) -> Result<Actions, Memory>
+    requires made { All (λ g. G.made_for g case.now) earlier.now }
+    requires made_goal { G.made_for goal.now case.now }
+    requires belongs { Belongs case.now book.old }
+    ensures turn { IfOk result (λ actions. Turn case.now (map (λ g. G.meaning g case.now) earlier.now) (G.meaning goal.now case.now) book.old actions) }
+    ensures end { IfOk result (λ actions. book.new ≡ after_all actions book.old) }
+    ensures belongs { IfOk result (λ actions. Belongs case.now book.new) }
+{
+    let mut actions = Actions::new(alloc);
+    'scan: while measure(goal, case, book) > 0 {
+        let next = next_action(alloc, case, book, earlier, goal)?;
+        match next {
+            None => return Ok(actions),
+            Some(action) => {
+                book.apply(case, action);
+                actions.push(action)?;
+            }
+        }
+    }
+    Ok(actions)
+}

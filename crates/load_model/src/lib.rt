@@ -1,0 +1,16 @@
+//! A cluster as one request sees it, an assignment of its partitions, and the book of a plan in the making.
+#![tactic(auto)]
+
+mod assign;
+mod book;
+mod case;
+mod limits;
+mod repeats;
+
+pub use assign::Assign;
+pub use book::LoadBook;
+pub use case::Case;
+pub use plan_terms::{
+    Broker, BrokerState, CaseFault, Limit, Loads, Memory, Options, Part, RackName, Ratio, Replicas,
+    Res4, Topic,
+};

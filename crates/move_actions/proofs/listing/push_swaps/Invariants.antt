@@ -1,0 +1,7 @@
+use Rattle.std.proofs.Common.{◌≡◌, ◌++◌, length}
+use Rattle.std.specs.List.{filter}
+use Rattle.plan_terms.specs.Legal.{is_legal, each_below, swaps_of}
+use Rattle.move_actions.proofs.listing.push_swaps.Given as goal
+
+abbrev pub invariant-loop-part : goal.invariant-loop-part
+invariant-loop-part l = l.out.items ≡ l.initial.out.items ++ filter (is_legal l.case l.lists) ((each_below (swaps_of l.case.brokers (length l.lists)) l.part))

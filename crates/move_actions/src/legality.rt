@@ -1,0 +1,160 @@
+// Which actions are legal.
+ghost use Rattle.std.specs.Prelude.{◌≡◌, ◌||◌};
+ghost use Rattle.plan_terms.specs.States.{is_dead, is_new, is_demoted};
+ghost use Rattle.plan_terms.specs.Cluster.{list_of, has, leads, some_broker};
+ghost use Rattle.plan_terms.specs.Legal.{is_live, is_lost, any_new, is_open, leader_fails, may_gain, is_legal};
+
+use load_model::{Assign, Case, LoadBook, Replicas};
+use plan_terms::Action;
+
+/// The list of a partition, or an empty one past the last.
+pub fn list_at(lists: &[Replicas], part: u32) -> &[u32]
+    ensures { result.now ≡ list_of lists.now part }
+{
+    let place = part as usize;
+    if place < lists.len() {
+        lists[place].as_slice()
+    } else {
+        &[]
+    }
+}
+
+/// Whether a list has the broker as a member.
+pub fn has_member(list: &[u32], broker: u32) -> bool
+    ensures { result ≡ has list.now broker }
+{
+    list.contains(&broker)
+}
+
+/// Whether the broker is one of the case, and not lost.
+pub fn is_live(case: &Case, broker: u32) -> bool
+    ensures { result ≡ is_live case.now broker }
+{
+    match case.broker(broker) {
+        Some(x) => !x.state.is_dead(),
+        None => false,
+    }
+}
+
+/// Whether the broker is one of the case, and lost.
+pub fn is_lost(case: &Case, broker: u32) -> bool
+    ensures { result ≡ is_lost case.now broker }
+{
+    match case.broker(broker) {
+        Some(x) => x.state.is_dead(),
+        None => false,
+    }
+}
+
+fn any_new(case: &Case) -> bool
+    ensures { result ≡ any_new case.now }
+{
+    case.brokers().iter().any(|x| x.state.is_new())
+}
+
+fn is_new(case: &Case, broker: u32) -> bool
+    ensures { result ≡ some_broker (λ x. is_new x.state) case.now broker }
+{
+    match case.broker(broker) {
+        Some(x) => x.state.is_new(),
+        None => false,
+    }
+}
+
+fn may_gain(case: &Case, broker: u32) -> bool
+    ensures { result ≡ may_gain case.now broker }
+{
+    is_new(case, broker) || !any_new(case)
+}
+
+fn is_open(case: &Case, part: u32) -> bool
+    ensures { result ≡ is_open case.now.parts part }
+{
+    let parts = case.parts();
+    let place = part as usize;
+    place < parts.len() && !parts[place].excluded
+}
+
+fn leads(list: &[u32], broker: u32) -> bool
+    ensures { result ≡ leads list.now broker }
+{
+    match list {
+        [] => false,
+        [first, ..] => *first == broker,
+    }
+}
+
+fn is_failing(case: &Case, broker: u32) -> bool
+    ensures { result ≡ some_broker (λ y. is_dead y.state || is_demoted y.state) case.now broker }
+{
+    match case.broker(broker) {
+        Some(x) => x.state.is_dead() || x.state.is_demoted(),
+        None => false,
+    }
+}
+
+fn leader_fails(case: &Case, list: &[u32]) -> bool
+    ensures { result ≡ leader_fails case.now list.now }
+{
+    match list {
+        [] => false,
+        [first, ..] => is_failing(case, *first),
+    }
+}
+
+/// Whether the action is legal on the lists.
+#[tactic(auto, unfolding(plan_terms::specs::Legal::is_legal))]
+pub fn is_legal_on(case: &Case, lists: &[Replicas], action: Action) -> bool
+    ensures { result ≡ is_legal case.now lists.now action }
+{
+    match action {
+        Action::Move { part, from, to } => {
+            let list = list_at(lists, part);
+            has_member(list, from)
+                && is_live(case, to)
+                && !has_member(list, to)
+                && (is_lost(case, from)
+                    || is_open(case, part) && !case.options().leads_only && may_gain(case, to))
+        }
+        Action::Lead { part, to } => {
+            let list = list_at(lists, part);
+            has_member(list, to)
+                && !leads(list, to)
+                && is_live(case, to)
+                && (is_open(case, part) || leader_fails(case, list))
+        }
+        Action::Swap {
+            part,
+            from,
+            other,
+            to,
+        } => {
+            let list = list_at(lists, part);
+            let other_list = list_at(lists, other);
+            part < other
+                && has_member(list, from)
+                && !has_member(other_list, from)
+                && has_member(other_list, to)
+                && !has_member(list, to)
+                && is_live(case, from)
+                && is_live(case, to)
+                && is_open(case, part)
+                && is_open(case, other)
+                && !case.options().leads_only
+                && !any_new(case)
+        }
+    }
+}
+
+/// Whether the action is legal on the book's lists: see [`Action`] for what each does.
+///
+/// A move needs a source that is a member and a target that is a live broker and none. It is legal where its source is
+/// lost, and where the partition's topic isn't excluded, more than leaders may change, and the target is new or no
+/// broker is. A lead needs a live member other than the first, and a topic that isn't excluded or a first member that
+/// is lost or demoted. A swap goes from a partition to a later one, exchanges two live brokers that are each a member
+/// of the one list alone, and needs that neither topic is excluded, more than leaders may change and no broker is new.
+pub fn legal(case: &Case, book: &LoadBook, action: Action) -> bool
+    ensures { result ≡ is_legal case.now book.now action }
+{
+    is_legal_on(case, book.lists().lists(), action)
+}

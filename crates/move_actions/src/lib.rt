@@ -1,0 +1,13 @@
+//! Actions on replica lists: which are legal, all of them in order, what each does, and what a goal says of one.
+#![tactic(auto)]
+
+mod effects;
+mod goals;
+mod legality;
+mod listing;
+
+pub use effects::{Moves, place_of};
+pub use goals::{Goal, measure};
+pub use legality::{is_lost, legal};
+pub use listing::{all_actions, legal_leads, legal_moves, legal_swaps};
+pub use plan_terms::{Action, Actions};

@@ -1,0 +1,11 @@
+pub mod Complete
+pub mod EffectLemmas
+pub mod FaultLemmas
+pub mod GoalLemmas
+pub mod InverseLemmas
+pub mod LegalLemmas
+pub mod MemberLemmas
+pub mod OnceLemmas
+pub mod PartitionLemmas
+pub mod RackLemmas
+pub mod Runs

@@ -1,0 +1,15 @@
+pub mod Belongs
+pub mod Change
+pub mod Cluster
+pub mod Effect
+pub mod Examples
+pub mod Faults
+pub mod Fits
+pub mod Fraction
+pub mod Goal
+pub mod Laws
+pub mod Legal
+pub mod Load
+pub mod Racks
+pub mod States
+pub mod Trace

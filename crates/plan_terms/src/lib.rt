@@ -1,0 +1,22 @@
+//! The words of planning: the plain types that the crates above share and, in `specs/`, every definition of planning
+//! that their contracts cite.
+#![tactic(auto)]
+
+mod actions;
+mod cluster;
+mod faults;
+mod laws;
+mod lists;
+mod ratio;
+mod texts;
+
+pub use actions::{Action, Actions, Turns};
+pub use cluster::{Broker, BrokerState, Loads, Options, Part, Res4};
+pub use faults::{CaseFault, Limit, Memory};
+pub use laws::{
+    definitions_on_examples, each_action_is_listed_once, legal_actions_keep_lists,
+    no_legal_action_helps, turn_keeps_earlier_goals,
+};
+pub use lists::{Proposal, Replicas};
+pub use ratio::Ratio;
+pub use texts::{RackName, Topic};

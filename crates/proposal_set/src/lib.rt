@@ -1,0 +1,13 @@
+//! What a plan asks for: the proposals between two assignments, and the reassignment JSON that Kafka's tools read.
+#![tactic(auto)]
+
+mod changes;
+mod laws;
+#[cfg(test)]
+mod tests;
+mod text;
+
+pub use changes::proposals;
+pub use laws::{proposals_lead_from_before_to_after, texts_on_literals};
+pub use plan_terms::Proposal;
+pub use text::{assignment_text, reassignment_text};

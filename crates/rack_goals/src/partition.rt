@@ -1,0 +1,180 @@
+// Goals with one unit for each partition, whose excess is a number of its list.
+ghost use Rattle.std.specs.Prelude.{◌≡◌, ℕ, Bool, ◌<◌, ◌≤◌, ◌^◌, ◌↔◌, IsTrue, IfOk, List, length, take, slice_set, false, ◌+◌};
+ghost use Rattle.plan_terms.specs.Cluster.{Cluster, Lists, list_of, has, leads};
+ghost use Rattle.plan_terms.specs.Effect.{replace, exchange_first, after};
+ghost use Rattle.plan_terms.specs.Goal.{Meaning, Accepts, Lessens, per_partition};
+
+use load_model::{Case, LoadBook, Memory};
+use move_actions::{Goal, place_of};
+use plan_terms::Action;
+use std::alloc::Global;
+
+/// What a goal asks of one list.
+pub trait ListRule: Sized {
+    /// How far a list exceeds the rule.
+    ghost list_excess: { Self → Cluster → List ℕ → ℕ };
+
+    /// Whether a plan fails where a list exceeds the rule.
+    ghost hard: { Self → Bool };
+
+    /// The rule was made for the cluster.
+    ghost made_for: { Self → Cluster → Type 0 };
+
+    /// The rule for the case.
+    fn new(alloc: Global, case: &Case) -> Result<Self, Memory>
+        ensures { IfOk result (λ rule. made_for rule case.now) };
+
+    /// Whether a plan fails where a list exceeds the rule.
+    fn is_hard(&self) -> bool
+        ensures { result ≡ hard self.now };
+
+    /// How far a list exceeds the rule.
+    fn excess_of(&self, case: &Case, list: &[u32]) -> usize
+        requires { made_for self.now case.now }
+        ensures { result ≡ list_excess self.now case.now list.now };
+
+    /// No list exceeds it by more than its members.
+    ghost within: { (r : Self) (c : Cluster) (list : List ℕ) → list_excess r c list ≤ length list };
+}
+
+/// The goal that no list exceeds the rule. Its units are the partitions.
+#[derive(Drop)]
+pub struct PartitionGoal<R> {
+    rule: R,
+}
+
+// A short list as an array, with one place changed.
+fn changed(list: &[u32], place: usize, to: u32) -> [u32; 8]
+    requires short { length list.now ≤ 8 }
+    requires place { place < length list.now }
+    ensures { take (length list.now) result ≡ slice_set list.now place to }
+{
+    let mut copy = [0u32; 8];
+    for (i, x) in list.iter().enumerate() {
+        copy[i] = *x;
+    }
+    copy[place] = to;
+    copy
+}
+
+// A short list as an array, with two places changed.
+fn changed_twice(list: &[u32], first: usize, second: usize, one: u32, two: u32) -> [u32; 8]
+    requires short { length list.now ≤ 8 }
+    requires first { first < length list.now }
+    requires second { second < length list.now }
+    ensures { take (length list.now) result ≡ slice_set (slice_set list.now first one) second two }
+{
+    let mut copy = changed(list, first, one);
+    copy[second] = two;
+    copy
+}
+
+impl<R: ListRule> PartitionGoal<R> {
+    /// The goal for the case.
+    pub fn new(alloc: Global, case: &Case) -> Result<Self, Memory>
+        ensures { IfOk result (λ goal. R.made_for goal.rule case.now) }
+    {
+        Ok(PartitionGoal {
+            rule: R::new(alloc, case)?,
+        })
+    }
+}
+
+// What the excess of a list is with one member in another's place.
+fn excess_with<R: ListRule>(rule: &R, case: &Case, list: &[u32], from: u32, to: u32) -> usize
+    requires made { R.made_for rule.now case.now }
+    requires short { length list.now ≤ 8 }
+    requires member { IsTrue (has list.now from) }
+    ensures { result ≡ R.list_excess rule.now case.now (replace from to list.now) }
+{
+    let copy = changed(list, place_of(list, from), to);
+    rule.excess_of(case, &copy[..list.len()])
+}
+
+// What the excess of a list is with another member first.
+fn excess_led_by<R: ListRule>(rule: &R, case: &Case, list: &[u32], to: u32) -> usize
+    requires made { R.made_for rule.now case.now }
+    requires short { length list.now ≤ 8 }
+    requires member { IsTrue (has list.now to) }
+    requires later { leads list.now to ≡ false }
+    ensures { result ≡ R.list_excess rule.now case.now (exchange_first to list.now) }
+{
+    let first = list[0];
+    let copy = changed_twice(list, place_of(list, to), 0, first, to);
+    rule.excess_of(case, &copy[..list.len()])
+}
+
+impl<R: ListRule> Goal for PartitionGoal<R> {
+    ghost use Rattle.plan_terms.proofs.PartitionLemmas.{per_partition-fits_120_bits};
+
+    ghost meaning = { λ g c. per_partition (R.hard g.rule) (R.list_excess g.rule c) c };
+
+    ghost made_for = { λ g c. R.made_for g.rule c };
+
+    fn is_hard(&self, _case: &Case) -> bool {
+        self.rule.is_hard()
+    }
+
+    fn units(&self, case: &Case) -> usize {
+        case.parts().len()
+    }
+
+    fn excess(&self, case: &Case, book: &LoadBook, unit: usize) -> u128 {
+        self.rule.excess_of(case, book.list(unit)) as u128
+    }
+
+    fn accepts(&self, case: &Case, book: &LoadBook, action: Action) -> bool {
+        match action {
+            Action::Move { part, from, to } => {
+                let list = book.list(part as usize);
+                excess_with(&self.rule, case, list, from, to) <= self.rule.excess_of(case, list)
+            }
+            Action::Lead { part, to } => {
+                let list = book.list(part as usize);
+                excess_led_by(&self.rule, case, list, to) <= self.rule.excess_of(case, list)
+            }
+            Action::Swap {
+                part,
+                from,
+                other,
+                to,
+            } => {
+                let list = book.list(part as usize);
+                let other_list = book.list(other as usize);
+                let one = excess_with(&self.rule, case, list, from, to);
+                let two = excess_with(&self.rule, case, other_list, to, from);
+                one <= self.rule.excess_of(case, list)
+                    && two <= self.rule.excess_of(case, other_list)
+            }
+        }
+    }
+
+    fn lessens(&self, case: &Case, book: &LoadBook, action: Action) -> bool {
+        match action {
+            Action::Move { part, from, to } => {
+                let list = book.list(part as usize);
+                excess_with(&self.rule, case, list, from, to) < self.rule.excess_of(case, list)
+            }
+            Action::Lead { part, to } => {
+                let list = book.list(part as usize);
+                excess_led_by(&self.rule, case, list, to) < self.rule.excess_of(case, list)
+            }
+            Action::Swap {
+                part,
+                from,
+                other,
+                to,
+            } => {
+                let list = book.list(part as usize);
+                let other_list = book.list(other as usize);
+                let one = excess_with(&self.rule, case, list, from, to);
+                let two = excess_with(&self.rule, case, other_list, to, from);
+                let before = self.rule.excess_of(case, list) as u128;
+                let other_before = self.rule.excess_of(case, other_list) as u128;
+                (one as u128) + (two as u128) < before + other_before
+            }
+        }
+    }
+
+    ghost small = { λ g c lists _ few fits. per_partition-fits_120_bits (R.hard g.rule) (R.list_excess g.rule c) c lists fits few (R.within g.rule c) };
+}
