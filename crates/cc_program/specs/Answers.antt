@@ -8,8 +8,10 @@ use Rattle.plan_terms.specs.Goal.{Meaning}
 use Rattle.plan_terms.specs.Racks.{rack_goal}
 use Rattle.plan_terms.specs.Trace.{Planned, Failed, after_turns}
 use Rattle.plan_terms.specs.declared.actions.Action.{Action}
-use Rattle.proposal_set.specs.Text.{reassignment_text}
+use Rattle.proposal_set.specs.Text.{reassignment_text, assignment_text}
 use Rattle.cc_program.specs.Thin.{ClusterLists}
+use Rattle.cc_program.specs.declared.words.Verb.{Verb}
+use Rattle.cc_program.specs.declared.words.Verb.TheVariants.{Plan, Apply}
 
 -- the goals, in order of priority
 abbrev pub goals_of : Cluster → List Meaning
@@ -28,6 +30,17 @@ pub record IsPlanText (file : ClusterLists) (text : List ℕ) : Type 0 where
   pub turns : List (List Action)
   pub planned : Planned file.cluster (goals_of file.cluster) file.lists turns
   pub spelled : text ≡ reassignment_text file.cluster.parts (proposals file.lists (after_turns turns file.lists)) ++ 10 ∷ []
+
+-- the text of all lists at the end of a plan, and a line feed
+pub record IsAppliedText (file : ClusterLists) (text : List ℕ) : Type 0 where
+  pub turns : List (List Action)
+  pub planned : Planned file.cluster (goals_of file.cluster) file.lists turns
+  pub spelled : text ≡ assignment_text file.cluster.parts (after_turns turns file.lists) ++ 10 ∷ []
+
+-- what a command that succeeds writes
+abbrev pub IsDoneText : Verb → ClusterLists → List ℕ → Type 0
+IsDoneText Plan file text = IsPlanText file text
+IsDoneText Apply file text = IsAppliedText file text
 
 -- the text of a failure: the goal at its place and its measure, and a line feed
 pub record IsFailureText (file : ClusterLists) (text : List ℕ) : Type 0 where

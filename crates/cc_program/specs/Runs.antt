@@ -1,14 +1,18 @@
 -- How a run ends, and what each end tells.
 use Rattle.std.specs.Prelude.{◌≡◌, ◌≢◌, ◌⊎◌, ℕ, List, [], ◌∷◌, ◌++◌, codes, Option, None, IfSome, Result, Ok, Err}
+use Rattle.exec_terms.specs.Machine.{first_unfinished, lists_now}
+use Rattle.plan_terms.specs.Cluster.{Cluster, Lists}
+use Rattle.proposal_set.specs.Text.{assignment_text}
+use Rattle.cc_program.specs.declared.words.Verb.{Verb}
 use Rattle.cc_base.specs.Outside.{HasRisen, appended, IsPrefixOut}
 use Rattle.cc_program.specs.Thin.{ClusterLists, Means}
 use Rattle.cc_program.specs.Words.{command}
 use Rattle.cc_program.specs.Views.{cluster_lists}
-use Rattle.cc_program.specs.Answers.{IsPlanText, IsFailureText}
+use Rattle.cc_program.specs.Answers.{IsPlanText, IsAppliedText, IsDoneText, IsFailureText}
 use Rattle.cc_program.specs.Quiet.{IsRefused, IsAnswer, IsRefusal}
 use Rattle.cc_program.specs.declared.thin.Loaded.{Loaded}
 use Rattle.cc_program.specs.declared.quiet.Answer.{Answer}
-use Rattle.cc_program.specs.declared.quiet.Answer.TheVariants.{Plan, Failure}
+use Rattle.cc_program.specs.declared.quiet.Answer.TheVariants.{Planned, Applied, Failure}
 use Rattle.cc_program.specs.declared.quiet.LoadFault.{LoadFault}
 use Rattle.cc_program.specs.declared.quiet.LoadFault.TheVariants as fault
 use Rattle.cc_program.specs.declared.quiet.End.{End}
@@ -53,18 +57,27 @@ pub record Edge : Type 0 where
 
 -- what each end says of the words and the edge
 abbrev pub Runs : List (List ℕ) → Edge → End → Type 0
-Runs words e Done = (text : List ℕ) × IsAnswer words e.told (λ file. IsPlanText file text) × (e.written_now ≡ appended e.written_before text)
+Runs words e Done = (text : List ℕ) × IsAnswer words e.told (λ verb file. IsDoneText verb file text) × (e.written_now ≡ appended e.written_before text)
 Runs words e Usage = (command words ≡ None) × (e.written_now ≡ e.written_before)
 Runs words e Refused = IsRefusal words e.told × (e.written_now ≡ e.written_before)
-Runs words e GoalFailed = (text : List ℕ) × IsAnswer words e.told (λ file. IsFailureText file text) × (e.written_now ≡ appended e.written_before text)
+Runs words e GoalFailed = (text : List ℕ) × IsAnswer words e.told (λ verb file. IsFailureText file text) × (e.written_now ≡ appended e.written_before text)
 Runs words e FileFault = (command words ≢ None) × HasRisen e.files_before e.files_now × (e.written_now ≡ e.written_before)
-Runs words e WriteFault = (text : List ℕ) × IsAnswer words e.told (λ file. IsPlanText file text ⊎ IsFailureText file text) × HasRisen e.out_before e.out_now × IsPrefixOut e.written_before e.written_now text
+Runs words e WriteFault = (text : List ℕ) × IsAnswer words e.told (λ verb file. IsDoneText verb file text ⊎ IsFailureText file text) × HasRisen e.out_before e.out_now × IsPrefixOut e.written_before e.written_now text
 Runs words e Memory = (command words ≢ None) × (e.written_now ≡ e.written_before)
 
--- a text in memory is that of a plan or of a failure
-abbrev pub IsText : ClusterLists → Answer → Type 0
-IsText file (Plan text) = IsPlanText file text.items
-IsText file (Failure text) = IsFailureText file text.items
+-- what a command made in memory: the text of a plan, an execution that is over and the text of its lists, or a failure
+abbrev pub IsMade : Verb → ClusterLists → Answer → Type 0
+IsMade verb file (Planned text) = IsDoneText verb file text.items
+IsMade verb file (Applied exec text) =
+    (exec.base ≡ file.lists) × (first_unfinished exec ≡ None) × (text.items ≡ assignment_text file.cluster.parts (lists_now exec) ++ 10 ∷ []) × IsDoneText verb file text.items
+IsMade verb file (Failure text) = IsFailureText file text.items
+
+-- an execution from the one assignment to the other that is over, and the text of its lists
+abbrev pub IsApplied : Cluster → Lists → Lists → Answer → Type 0
+IsApplied c before after (Planned text) = ⊥
+IsApplied c before after (Applied exec text) =
+    (exec.base ≡ before) × (first_unfinished exec ≡ None) × (lists_now exec ≡ after) × (text.items ≡ assignment_text c.parts (lists_now exec) ++ 10 ∷ [])
+IsApplied c before after (Failure text) = ⊥
 
 -- the line is out, or the stream's count of faults rose and a front of the line is out
 abbrev pub IsTold : List ℕ → Option (List ℕ) → Option (List ℕ) → ℕ → ℕ → Type 0

@@ -1,19 +1,22 @@
 // The texts that answer for a cluster.
-ghost use Rattle.std.specs.Prelude.{◌≡◌, ◌++◌, ◌∷◌, [], codes, get_or, IfOk};
+ghost use Rattle.std.specs.Prelude.{◌≡◌, ◌++◌, ◌∷◌, [], codes, get_or, length, IfOk};
 ghost use Rattle.plan_terms.specs.Belongs.{Belongs};
 ghost use Rattle.serde_json.specs.Data.{object, member, string, no_members};
 ghost use Rattle.serde_json.specs.View.{view};
 ghost use Rattle.plan_terms.specs.Change.{proposals};
-ghost use Rattle.proposal_set.specs.Text.{reassignment_text};
+ghost use Rattle.exec_terms.specs.Machine.{lists_now};
+ghost use Rattle.proposal_set.specs.Text.{reassignment_text, assignment_text};
 ghost use Rattle.cc_program.specs.Answers.{goal_names, failure_text, IsPlanText, IsFailureText};
 ghost use Rattle.cc_program.specs.Views.{cluster_lists};
-ghost use Rattle.cc_program.specs.Runs.{IsText};
+ghost use Rattle.cc_program.specs.Runs.{IsMade, IsApplied};
 
 use crate::plan::{Ended, plan_turns};
 use crate::quiet::Answer;
 use crate::thin::Loaded;
+use crate::words::Verb;
+use executor_core::{Exec, carry_out};
 use load_model::{Assign, Case, Memory};
-use proposal_set::{proposals, reassignment_text};
+use proposal_set::{assignment_text, proposals, reassignment_text};
 use rack_goals::RackAwareGoal;
 use serde_json::{Value, json};
 use std::alloc::Global;
@@ -65,17 +68,42 @@ fn failure_line(alloc: Global, place: usize, measure: u128) -> Result<Vec<u8>, M
     Ok(text)
 }
 
-/// The text of a plan for the cluster, or of the goal that fails.
-pub fn answer(alloc: Global, loaded: &Loaded) -> Result<Answer, Memory>
+// The text of all lists that an execution left, and a line feed.
+fn lists_line(alloc: Global, case: &Case, exec: &Exec) -> Result<Vec<u8>, Memory>
+    requires { length (lists_now exec.now) ≡ length case.now.parts }
+    ensures { IfOk result (λ text. text.items ≡ assignment_text case.now.parts (lists_now exec.now) ++ 10 ∷ []) }
+{
+    let lists = exec.lists_now(alloc)?;
+    let mut text = assignment_text(alloc, case, &lists)?;
+    text.push(10)?;
+    Ok(text)
+}
+
+// Carries out what leads from the one assignment to the other, and writes the lists that this leaves.
+fn applied(alloc: Global, case: &Case, before: &Assign, after: &Assign) -> Result<Answer, Memory>
+    requires before { Belongs case.now before.now }
+    requires after { Belongs case.now after.now }
+    ensures { IfOk result (IsApplied case.now before.now after.now) }
+{
+    let exec = carry_out(alloc, case, before, after)?;
+    let text = lists_line(alloc, case, &exec)?;
+    Ok(Answer::Applied(exec, text))
+}
+
+/// What a command makes of the cluster: the text of a plan, the end of its execution, or the goal that fails.
+pub fn answer(alloc: Global, verb: Verb, loaded: &Loaded) -> Result<Answer, Memory>
     requires { Belongs loaded.now.case loaded.now.lists }
-    ensures { IfOk result (IsText (cluster_lists loaded.now)) }
+    ensures { IfOk result (IsMade verb (cluster_lists loaded.now)) }
 {
     let case = &loaded.case;
     let start = &loaded.lists;
     let goals = [RackAwareGoal::new(alloc, case)?];
     let outcome = plan_turns(alloc, case, start, &goals)?;
     match outcome.ended {
-        Ended::Planned => { Ok(Answer::Plan(change_line(alloc, case, start, &outcome.end)?)) }
+        Ended::Planned => match verb {
+            Verb::Plan => Ok(Answer::Planned(change_line(alloc, case, start, &outcome.end)?)),
+            Verb::Apply => applied(alloc, case, start, &outcome.end),
+        },
         Ended::Failed { place, left } => Ok(Answer::Failure(failure_line(alloc, place, left)?)),
     }
 }

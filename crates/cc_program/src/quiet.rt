@@ -2,10 +2,10 @@
 ghost use Rattle.std.specs.Prelude.{◌≡◌, ◌≢◌, ◌≤◌, ◌⊎◌, ◌↔◌, List, ℕ, map, Some, None, string_bytes, IfOk};
 ghost use Rattle.cc_base.specs.Outside.{HasRisen, appended, IsPrefixOut};
 ghost use Rattle.plan_terms.specs.Belongs.{Belongs};
-ghost use Rattle.cc_program.specs.Answers.{IsPlanText, IsFailureText};
+ghost use Rattle.cc_program.specs.Answers.{IsDoneText, IsFailureText};
 ghost use Rattle.cc_program.specs.Quiet.{IsRefused, IsAnswer, IsRefusal};
 ghost use Rattle.cc_program.specs.Runs.{Loads, Runs, IsTold, status_of, line_of};
-ghost use Rattle.cc_program.specs.Words.{command};
+ghost use Rattle.cc_program.specs.Words.{Asked, command};
 ghost use Rattle.cc_program.specs.declared.quiet.End.{End};
 
 use crate::answers::answer;
@@ -13,6 +13,7 @@ use crate::fault::ReadRefusal;
 use crate::thin::{Loaded, read_cluster};
 use crate::words::command;
 use cc_base::{FileFault, Files, Sink, Source, write_all_of};
+use executor_core::Exec;
 use std::alloc::Global;
 use std::thread::Threads;
 
@@ -36,10 +37,14 @@ pub enum End {
     Memory,
 }
 
-/// A text, whole in memory.
+/// What a command made, whole in memory.
 #[derive(Drop)]
 pub enum Answer {
-    Plan(Vec<u8>),
+    /// The text of a plan.
+    Planned(Vec<u8>),
+    /// An execution that is over, and the text of its lists.
+    Applied(Exec, Vec<u8>),
+    /// The text of the goal that fails.
     Failure(Vec<u8>),
 }
 
@@ -72,20 +77,25 @@ fn run<F: Files, O: Sink>(alloc: Global, words: &[String], files: &mut F, out: &
       written_now = O.written out.new;
     }) result }
 {
-    let Some(name) = command(words) else {
+    let Some(command) = command(words) else {
         return End::Usage;
     };
-    let loaded = match load(alloc, files, name) {
+    let loaded = match load(alloc, files, command.file) {
         Ok(loaded) => loaded,
         Err(LoadFault::Refused) => return End::Refused,
         Err(LoadFault::Failed) => return End::FileFault,
         Err(LoadFault::Memory) => return End::Memory,
     };
-    let Ok(answer) = answer(alloc, &loaded) else {
-        return End::Memory;
+    let answer = match answer(alloc, command.verb, &loaded) {
+        Ok(answer) => answer,
+        Err(_) => return End::Memory,
     };
     match answer {
-        Answer::Plan(text) => match write_all_of(out, &text) {
+        Answer::Planned(text) => match write_all_of(out, &text) {
+            Ok(()) => End::Done,
+            Err(_) => End::WriteFault,
+        },
+        Answer::Applied(_, text) => match write_all_of(out, &text) {
             Ok(()) => End::Done,
             Err(_) => End::WriteFault,
         },
@@ -135,7 +145,8 @@ fn tell<O: Sink>(err: &mut O, end: End)
     }
 }
 
-/// Runs a command that waits for nobody, and answers the exit status: 0 for a plan, 2 for words that are no command,
+/// Runs a command that waits for nobody, and answers the exit status: 0 where it is
+/// done, 2 for words that are no command,
 /// 3 for a file that is refused, 4 for a hard goal that fails, 5 for a fault of the files, 7 for a fault of the output
 /// and 9 for want of memory. The answer goes to `out` once it is whole in memory, one line on any other end to `err`;
 /// what becomes of that line changes nothing.
@@ -150,23 +161,23 @@ pub fn run_quiet<R: Threads + Sync, F: Files, I: Source, O: Sink>(
     out: &mut O,
     err: &mut O,
 ) -> u8
-    // 0: the output grew by the text of a plan for what the file means.
-    ensures planned { result ≡ 0 → (text : List ℕ) × IsAnswer (map string_bytes words.now) (F.contents files.old) (λ file. IsPlanText file text)
+    // 0: the output grew by the text of a plan for what the file means, or of all lists at the end of one.
+    ensures planned { result ≡ 0 → (text : List ℕ) × IsAnswer (map string_bytes words.now) (F.contents files.old) (λ verb file. IsDoneText verb file text)
         × (O.written out.new ≡ appended (O.written out.old) text) }
     // 4: the output grew by the text of a failure for what the file means.
-    ensures failed { result ≡ 4 → (text : List ℕ) × IsAnswer (map string_bytes words.now) (F.contents files.old) (λ file. IsFailureText file text)
+    ensures failed { result ≡ 4 → (text : List ℕ) × IsAnswer (map string_bytes words.now) (F.contents files.old) (λ verb file. IsFailureText file text)
         × (O.written out.new ≡ appended (O.written out.old) text) }
     // 2: exactly where the words are no command.
     ensures usage { (result ≡ 2) ↔ (command (map string_bytes words.now) ≡ None) }
     // 3: only where the file has no meaning, and there unless the files or memory fail.
     ensures refused { result ≡ 3 → IsRefusal (map string_bytes words.now) (F.contents files.old) }
-    ensures refuses { (name bytes : List ℕ) → command (map string_bytes words.now) ≡ Some name → F.contents files.old name ≡ Some bytes
+    ensures refuses { (asked : Asked) (bytes : List ℕ) → command (map string_bytes words.now) ≡ Some asked → F.contents files.old asked.name ≡ Some bytes
         → IsRefused bytes → (result ≡ 3) ⊎ (result ≡ 5) ⊎ (result ≡ 9) }
     // 5: only where the files' count rose.
     ensures files { result ≡ 5 → HasRisen (F.faults files.old) (F.faults files.new) }
     // 7: only where the output's count rose. A front of the text is out.
     ensures output { result ≡ 7 → HasRisen (O.faults out.old) (O.faults out.new) }
-    ensures prefix { result ≡ 7 → (text : List ℕ) × IsAnswer (map string_bytes words.now) (F.contents files.old) (λ file. IsPlanText file text ⊎ IsFailureText file text)
+    ensures prefix { result ≡ 7 → (text : List ℕ) × IsAnswer (map string_bytes words.now) (F.contents files.old) (λ verb file. IsDoneText verb file text ⊎ IsFailureText file text)
         × IsPrefixOut (O.written out.old) (O.written out.new) text }
     // Nothing else is written, and there is no other status.
     ensures silent { result ≢ 0 → result ≢ 4 → result ≢ 7 → O.written out.new ≡ O.written out.old }

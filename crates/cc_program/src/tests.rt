@@ -1,16 +1,23 @@
 use crate::quiet::run_quiet;
 use crate::thin::{Loaded, read_cluster};
 use cc_base::{Failing, FileFault, Files, MemoryFile, MemoryFiles, MemorySink, MemorySource};
-use load_model::{Assign, CaseFault, Limit};
+use load_model::{Assign, CaseFault, Limit, Part};
 use move_actions::{Action, all_actions};
+use serde_json::Value;
 use std::alloc::{AllocError, Global};
 use std::process::Abort;
 use std::test::Fail;
 use std::thread::Threads;
 
-// A partition on two brokers of one rack, and a broker in another.
-const SHARED_RACK: &str =
+// The clusters of the folder examples/.
+const THREE_BROKERS: &str =
     "{\"version\":1,\"brokers\":[{\"id\":0,\"rack\":\"a\"},{\"id\":1,\"rack\":\"a\"},{\"id\":2,\"rack\":\"b\"}],\"partitions\":[{\"topic\":\"t\",\"partition\":0,\"replicas\":[0,1]}]}";
+
+const THREE_ZONES: &str =
+    "{\"version\":1,\"brokers\":[{\"id\":101,\"rack\":\"zone-a\"},{\"id\":102,\"rack\":\"zone-a\"},{\"id\":103,\"rack\":\"zone-b\"},{\"id\":104,\"rack\":\"zone-b\"},{\"id\":105,\"rack\":\"zone-c\"},{\"id\":106,\"rack\":\"zone-c\"}],\"partitions\":[{\"topic\":\"orders\",\"partition\":0,\"replicas\":[101,102,103]},{\"topic\":\"orders\",\"partition\":1,\"replicas\":[103,105,101]},{\"topic\":\"orders\",\"partition\":2,\"replicas\":[105,106,102]},{\"topic\":\"orders\",\"partition\":3,\"replicas\":[102,104,106]},{\"topic\":\"payments\",\"partition\":0,\"replicas\":[104,103,101]},{\"topic\":\"payments\",\"partition\":1,\"replicas\":[106,101,103]},{\"topic\":\"payments\",\"partition\":2,\"replicas\":[101,103,105]},{\"topic\":\"payments\",\"partition\":3,\"replicas\":[102,101,104]}]}";
+
+const TOO_FEW_RACKS: &str =
+    "{\"version\":1,\"brokers\":[{\"id\":1,\"rack\":\"dc-1\"},{\"id\":2,\"rack\":\"dc-1\"},{\"id\":3,\"rack\":\"dc-2\"},{\"id\":4,\"rack\":\"dc-2\"}],\"partitions\":[{\"topic\":\"audit\",\"partition\":0,\"replicas\":[1,2,3]},{\"topic\":\"audit\",\"partition\":1,\"replicas\":[2,3]},{\"topic\":\"audit\",\"partition\":2,\"replicas\":[3,4]}]}";
 
 const NO_PARTITION: &str =
     "{\"version\":1,\"brokers\":[{\"id\":0,\"rack\":\"a\"},{\"id\":1,\"rack\":\"a\"},{\"id\":2,\"rack\":\"b\"}],\"partitions\":[]}";
@@ -97,15 +104,16 @@ fn expect<R: Threads + Sync + Abort + AllocGlobal, F: Files>(
     Ok(())
 }
 
-// Plans the file `cluster` of this text.
-fn expect_plan<R: Threads + Sync + Abort + AllocGlobal>(
+// Runs a command on the file `cluster` of this text.
+fn expect_command<R: Threads + Sync + Abort + AllocGlobal>(
     rt: &R,
+    command: &str,
     text: &str,
     fail: &[u64],
     expected: Expected<'_>,
 ) -> Result<(), Fail> {
     let alloc = rt.alloc();
-    let words = words_for(alloc, "plan", "cluster", &RACK)?;
+    let words = words_for(alloc, command, "cluster", &RACK)?;
     let mut files = files_of(alloc, text)?;
     expect(rt, &words, &mut files, fail, expected)
 }
@@ -117,7 +125,7 @@ fn answers_files(rt: HostRuntime) -> Result<(), Fail> {
     let refused = "cluster refused: Unsupported\n";
     let failed = "hard goal failed: RackAwareGoal\n";
     let rows = [
-        (SHARED_RACK, 0, moved, ""),
+        (THREE_BROKERS, 0, moved, ""),
         (NO_PARTITION, 0, "{\"partitions\":[],\"version\":1}\n", ""),
         (
             TWO_RACKS_FOR_THREE,
@@ -130,25 +138,112 @@ fn answers_files(rt: HostRuntime) -> Result<(), Fail> {
         ("no JSON", 3, "", refused),
     ];
     for (text, status, out, err) in rows {
-        expect_plan(&rt, text, &[], Expected { status, out, err })?;
+        let expected = Expected { status, out, err };
+        expect_command(&rt, "plan", text, &[], expected)?;
+        expect_command(&rt, "apply", text, &[], expected)?;
     }
-    let err = "write fault\n";
-    expect_plan(
-        &rt,
-        SHARED_RACK,
-        &[0],
-        Expected {
-            status: 7,
-            out: "",
-            err,
-        },
-    )
+    let unwritten = Expected {
+        status: 7,
+        out: "",
+        err: "write fault\n",
+    };
+    expect_command(&rt, "plan", THREE_BROKERS, &[0], unwritten)?;
+    expect_command(&rt, "apply", THREE_BROKERS, &[0], unwritten)
+}
+
+// What a command writes for the file of this text.
+fn written<R: Threads + Sync + Abort + AllocGlobal>(
+    rt: &R,
+    command: &str,
+    text: &str,
+) -> Result<Value, Fail> {
+    let alloc = rt.alloc();
+    let words = words_for(alloc, command, "cluster", &RACK)?;
+    let mut files = files_of(alloc, text)?;
+    let mut input = MemorySource::new(Vec::new(alloc));
+    let mut out = sink(alloc, &[])?;
+    let mut err = sink(alloc, &[])?;
+    let _ = run_quiet(
+        rt, alloc, &words, &mut files, &mut input, &mut out, &mut err,
+    );
+    Ok(Value::from_slice(alloc, out.inner().bytes())?)
+}
+
+// The replica list that a reassignment gives a partition.
+fn list_in<'v>(reassignment: &'v Value, part: &Part) -> Option<&'v Vec<Value>> {
+    for entry in reassignment.get("partitions")?.as_array()? {
+        let topic = entry.get("topic")?.as_str()?;
+        let number = entry.get("partition")?.as_u64()?;
+        if topic == part.topic.as_str() && number == part.number as u64 {
+            return entry.get("replicas")?.as_array();
+        }
+    }
+    None
+}
+
+// Whether the numbers are those ids.
+fn are_ids(numbers: &[Value], ids: &[u32]) -> bool {
+    if numbers.len() != ids.len() {
+        return false;
+    }
+    for (number, id) in numbers.iter().zip(ids) {
+        if number.as_u64() != Some(*id as u64) {
+            return false;
+        }
+    }
+    true
+}
+
+// Whether the two lists of numbers are the same.
+fn are_same(some: &[Value], others: &[Value]) -> bool {
+    if some.len() != others.len() {
+        return false;
+    }
+    for (one, other) in some.iter().zip(others) {
+        if one.as_u64() != other.as_u64() {
+            return false;
+        }
+    }
+    true
+}
+
+// Whether the applied lists are the file's with the plan's in their places, partition by partition.
+fn agree(plan: &Value, applied: &Value, loaded: &Loaded) -> bool {
+    for (part, before) in loaded.case.parts().iter().zip(loaded.lists.lists()) {
+        let Some(after) = list_in(applied, part) else {
+            return false;
+        };
+        let holds = match list_in(plan, part) {
+            Some(asked) => are_same(after, asked),
+            None => are_ids(after, before.as_slice()),
+        };
+        if !holds {
+            return false;
+        }
+    }
+    true
+}
+
+#[test]
+fn applies_what_it_plans(rt: HostRuntime) -> Result<(), Fail> {
+    for text in [THREE_BROKERS, NO_PARTITION, THREE_ZONES] {
+        let loaded = read_cluster(rt.alloc(), text.as_bytes())?;
+        let plan = written(&rt, "plan", text)?;
+        let applied = written(&rt, "apply", text)?;
+        assert!(rt; agree(&plan, &applied, &loaded));
+    }
+    let failed = Expected {
+        status: 4,
+        out: "{\"failed\":\"RackAwareGoal\",\"measure\":\"1\"}\n",
+        err: "hard goal failed: RackAwareGoal\n",
+    };
+    expect_command(&rt, "apply", TOO_FEW_RACKS, &[], failed)
 }
 
 #[test]
 fn answers_words_and_faults(rt: HostRuntime) -> Result<(), Fail> {
     let alloc = rt.alloc();
-    let mut files = files_of(alloc, SHARED_RACK)?;
+    let mut files = files_of(alloc, THREE_BROKERS)?;
     let out = "";
     let usage = Expected {
         status: 2,
@@ -172,13 +267,13 @@ fn answers_words_and_faults(rt: HostRuntime) -> Result<(), Fail> {
     expect(&rt, &absent, &mut NoMemory, &[], memory)
 }
 
-fn shared_rack(alloc: Global) -> Result<Loaded, Fail> {
-    Ok(read_cluster(alloc, SHARED_RACK.as_bytes())?)
+fn three_brokers(alloc: Global) -> Result<Loaded, Fail> {
+    Ok(read_cluster(alloc, THREE_BROKERS.as_bytes())?)
 }
 
 #[test]
 fn lists_actions(rt: HostRuntime) -> Result<(), Fail> {
-    let loaded = shared_rack(rt.alloc())?;
+    let loaded = three_brokers(rt.alloc())?;
     let actions = all_actions(rt.alloc(), &loaded.case, &loaded.lists)?;
     let away = Action::Move {
         part: 0,
@@ -197,7 +292,7 @@ fn lists_actions(rt: HostRuntime) -> Result<(), Fail> {
 
 // The fault of one list for the one partition.
 fn fault_of(alloc: Global, list: &[u32]) -> Result<Option<CaseFault>, Fail> {
-    let loaded = shared_rack(alloc)?;
+    let loaded = three_brokers(alloc)?;
     let mut lists = Vec::new(alloc);
     lists.push(list.to_vec(alloc)?)?;
     if loaded.case.parts().len() != 1 {

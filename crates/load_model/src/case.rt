@@ -49,6 +49,26 @@ fn first_fault(
     Ok(part_repeat(parts))
 }
 
+fn copy_brokers(alloc: Global, brokers: &[Broker]) -> Result<Vec<Broker>, Memory>
+    ensures { IfOk result (λ v. v.items ≡ brokers.now) }
+{
+    let mut copies = Vec::new(alloc);
+    for broker in brokers {
+        copies.push(broker.copy(alloc)?)?;
+    }
+    Ok(copies)
+}
+
+fn copy_parts(alloc: Global, parts: &[Part]) -> Result<Vec<Part>, Memory>
+    ensures { IfOk result (λ v. v.items ≡ parts.now) }
+{
+    let mut copies = Vec::new(alloc);
+    for part in parts {
+        copies.push(part.copy(alloc)?)?;
+    }
+    Ok(copies)
+}
+
 impl Case {
     /// The case of these brokers and partitions, or their first fault: the first limit that is broken of brokers,
     /// topics, partitions, loads, capacities and chunks; then the first broker that stands twice; then the first
@@ -106,5 +126,16 @@ impl Case {
         ensures { option_map (λ b. b.now) result ≡ broker_of self.now.brokers id }
     {
         self.brokers.iter().find(|b| b.id == id)
+    }
+
+    /// The same case.
+    pub fn copy(&self, alloc: Global) -> Result<Case, Memory>
+        ensures { IfOk result (λ c. c ≡ self.now) }
+    {
+        Ok(Case {
+            brokers: copy_brokers(alloc, self.brokers.as_slice())?,
+            parts: copy_parts(alloc, self.parts.as_slice())?,
+            options: self.options,
+        })
     }
 }

@@ -101,7 +101,7 @@ fn writes_all_lists(rt: HostRuntime) -> Result<(), Fail> {
     let alloc = rt.alloc();
     let case = case(alloc)?;
     let lists = assignment(alloc, &case, [[1, 2], [2, 3], [3, 1]])?;
-    let text = assignment_text(alloc, &case, &lists)?;
+    let text = assignment_text(alloc, &case, lists.lists())?;
     assert_eq!(rt;
         text.as_slice(),
         br#"{"partitions":[{"partition":4,"replicas":[1,2],"topic":"logs"},{"partition":7,"replicas":[2,3],"topic":"logs"},{"partition":0,"replicas":[3,1],"topic":"a\"b"}],"version":1}"#.as_slice()

@@ -6,7 +6,7 @@ ghost use Rattle.serde_json.specs.Read.{read};
 ghost use Rattle.serde_json.specs.View.{view, items_of};
 ghost use Rattle.proposal_set.specs.Text.{number_data, entry_of, proposal_entries, list_entries, reassignment, reassignment_text, assignment_text};
 
-use load_model::{Assign, Case};
+use load_model::Case;
 use plan_terms::{Memory, Part, Proposal, Replicas};
 use serde_json::{Value, json};
 use std::alloc::{AllocError, Global};
@@ -79,12 +79,12 @@ pub fn reassignment_text(
 }
 
 /// The reassignment JSON of all lists, in the order of the partitions. It has the form of `reassignment_text`.
-pub fn assignment_text(alloc: Global, case: &Case, lists: &Assign) -> Result<Vec<u8>, Memory>
+pub fn assignment_text(alloc: Global, case: &Case, lists: &[Replicas]) -> Result<Vec<u8>, Memory>
     requires { length lists.now ≡ length case.now.parts }
     ensures text { IfOk result (λ text. text.items ≡ assignment_text case.now.parts lists.now) }
     ensures reads { IfOk result (λ text. read text.items ≡ Some (reassignment (list_entries case.now.parts lists.now))) }
 {
-    let entries = list_values(alloc, case.parts(), lists.lists())?;
+    let entries = list_values(alloc, case.parts(), lists)?;
     let value = reassignment_value(alloc, entries)?;
     Ok(value.to_vec(alloc)?)
 }

@@ -9,13 +9,13 @@ use Rattle.proposal_set.proofs.text.assignment_text.Goals as goal
 pub returns-clause-text : goal.returns-clause-text
 unfolding assignment_text
 returns-clause-text c =
-    let is = rw (c.in_ok-entries.ensures, c.parts.ensures.value, c.lists.ensures.value) at c.in_ok-value.ensures in
+    let is = rw (c.in_ok-entries.ensures, c.parts.ensures.value) at c.in_ok-value.ensures in
     let plain = IsPlain-lists c.args.case.now.parts c.args.lists.now in
     c.in_ok-to_vec.ensures.text (ap has_float is ∙ no_float-reassignment _ plain) ∙ ap compact_text is
 
 pub returns-clause-reads : goal.returns-clause-reads
 returns-clause-reads c =
-    let is = rw (c.in_ok-entries.ensures, c.parts.ensures.value, c.lists.ensures.value) at c.in_ok-value.ensures in
+    let is = rw (c.in_ok-entries.ensures, c.parts.ensures.value) at c.in_ok-value.ensures in
     let plain = IsPlain-lists c.args.case.now.parts c.args.lists.now in
     let shallow : depth (view c.in_ok-value.value) ≤ 127 = rw is (depth-reassignment _ plain) in
     c.in_ok-to_vec.ensures.reads_back shallow ∙ ap Some is

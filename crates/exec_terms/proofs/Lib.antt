@@ -1,0 +1,17 @@
+pub mod Begin
+pub mod Calls
+pub mod Copies
+pub mod Counts
+pub mod Events
+pub mod Gives
+pub mod Launch
+pub mod ListLaws
+pub mod Mapped
+pub mod Members
+pub mod NextWork
+pub mod Quiet
+pub mod QuietTasks
+pub mod Take
+pub mod TaskLemmas
+pub mod Unions
+pub mod WorkLeft

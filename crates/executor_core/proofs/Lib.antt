@@ -1,0 +1,5 @@
+pub mod Changes
+pub mod Drained
+pub mod Kept
+pub mod Launched
+pub mod Rounds

@@ -1,0 +1,104 @@
+// One worker alone, whom nobody stops.
+ghost use Rattle.std.specs.Prelude.{◌≡◌, None, IfOk, OnOk, map};
+ghost use Rattle.std.specs.List.{All};
+ghost use Rattle.plan_terms.specs.Belongs.{Belongs};
+ghost use Rattle.plan_terms.specs.Change.{proposals};
+ghost use Rattle.exec_terms.specs.Machine.{first_unfinished, lists_now, after_launch};
+ghost use Rattle.exec_terms.specs.Runs.{CanLaunch};
+ghost use Rattle.executor_core.specs.Alone.{proposal_of, IsBetweenRounds, IsOut, after_report};
+
+use crate::Exec;
+use exec_terms::{Given, LaunchFault, Phase, Work};
+use load_model::{Assign, Case, Part};
+use plan_terms::{Memory, Proposal};
+use proposal_set::proposals;
+use std::alloc::Global;
+
+// How many copies a replica of each partition takes.
+fn chunk_counts(alloc: Global, parts: &[Part]) -> Result<Vec<u32>, Memory>
+    ensures { IfOk result (λ counts. counts.items ≡ map (λ p. p.chunks) parts.now) }
+{
+    let mut counts = Vec::new(alloc);
+    for part in parts {
+        counts.push(part.chunks)?;
+    }
+    Ok(counts)
+}
+
+// Launches the proposals, where no task is unfinished.
+fn start(exec: &mut Exec, alloc: Global, proposals: &[Proposal]) -> Result<(), Memory>
+    requires idle { first_unfinished exec.old ≡ None }
+    requires can { CanLaunch exec.old proposals.now }
+    ensures { OnOk result (exec.new ≡ after_launch exec.old proposals.now) }
+{
+    match exec.launch(alloc, proposals) {
+        Ok(()) => Ok(()),
+        Err(LaunchFault::Memory) => Err(Memory),
+        Err(LaunchFault::Executing(_)) => unreachable!(),
+    }
+}
+
+/// A new executor of the one assignment that has launched what leads to the other.
+pub fn launched(alloc: Global, case: &Case, before: &Assign, after: &Assign) -> Result<Exec, Memory>
+    requires before { Belongs case.now before.now }
+    requires after { Belongs case.now after.now }
+    ensures { IfOk result (IsBetweenRounds before.now (proposals before.now after.now)) }
+{
+    let chunks = chunk_counts(alloc, case.parts())?;
+    let mut exec = Exec::new(alloc, before, &chunks)?;
+    let changes = proposals(alloc, before, after)?;
+    start(&mut exec, alloc, &changes)?;
+    Ok(exec)
+}
+
+// Reports done the work whose lease is out.
+fn report(exec: &mut Exec, given: Given)
+    requires { IsOut exec.old given }
+    ensures { exec.new ≡ after_report exec.old given.lease given.work }
+{
+    match given.work {
+        Work::Copy { .. } => {
+            let Ok(_) = exec.copied(given.lease) else {
+                unreachable!()
+            };
+        }
+        Work::Commit => {
+            let Ok(()) = exec.commit(given.lease) else {
+                unreachable!()
+            };
+        }
+        Work::Cancel => unreachable!(),
+    }
+}
+
+// Takes work and reports it done, until nothing is left.
+fn drain(exec: &mut Exec)
+    requires { IsBetweenRounds exec.old.base (map proposal_of exec.old.tasks) exec.old }
+    ensures rounds { IsBetweenRounds exec.old.base (map proposal_of exec.old.tasks) exec.new }
+    ensures drained { first_unfinished exec.new ≡ None }
+{
+    while let Ok(given) = exec.take() {
+        report(exec, given);
+    }
+}
+
+/// Carries out, on one thread, what takes the case's partitions from the one assignment to the other: launches the
+/// proposals, then takes work and reports it done until nothing is left.
+pub fn carry_out(
+    alloc: Global,
+    case: &Case,
+    before: &Assign,
+    after: &Assign,
+) -> Result<Exec, Memory>
+    requires before { Belongs case.now before.now }
+    requires after { Belongs case.now after.now }
+    ensures drained { IfOk result (λ exec. first_unfinished exec ≡ None) }
+    ensures lists { IfOk result (λ exec. lists_now exec ≡ after.now) }
+    ensures base { IfOk result (λ exec. exec.base ≡ before.now) }
+    ensures tasks { IfOk result (λ exec. map proposal_of exec.tasks ≡ proposals before.now after.now) }
+    ensures completed { IfOk result (λ exec. All (λ t. t.phase ≡ Phase.Completed) exec.tasks) }
+{
+    let mut exec = launched(alloc, case, before, after)?;
+    drain(&mut exec);
+    Ok(exec)
+}
