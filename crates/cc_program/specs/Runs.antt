@@ -4,11 +4,12 @@ use Rattle.exec_terms.specs.Machine.{first_unfinished, lists_now}
 use Rattle.plan_terms.specs.Cluster.{Cluster, Lists}
 use Rattle.proposal_set.specs.Text.{assignment_text}
 use Rattle.cc_program.specs.declared.words.Verb.{Verb}
+use Rattle.cc_program.specs.declared.words.Verb.TheVariants as asks
 use Rattle.cc_base.specs.Outside.{HasRisen, appended, IsPrefixOut}
 use Rattle.cc_program.specs.Thin.{ClusterLists, Means}
 use Rattle.cc_program.specs.Words.{command}
 use Rattle.cc_program.specs.Views.{cluster_lists}
-use Rattle.cc_program.specs.Answers.{IsPlanText, IsAppliedText, IsDoneText, IsFailureText}
+use Rattle.cc_program.specs.Answers.{IsDoneText, IsFailureText}
 use Rattle.cc_program.specs.Quiet.{IsRefused, IsAnswer, IsRefusal}
 use Rattle.cc_program.specs.declared.thin.Loaded.{Loaded}
 use Rattle.cc_program.specs.declared.quiet.Answer.{Answer}
@@ -65,11 +66,13 @@ Runs words e FileFault = (command words ≢ None) × HasRisen e.files_before e.f
 Runs words e WriteFault = (text : List ℕ) × IsAnswer words e.told (λ verb file. IsDoneText verb file text ⊎ IsFailureText file text) × HasRisen e.out_before e.out_now × IsPrefixOut e.written_before e.written_now text
 Runs words e Memory = (command words ≢ None) × (e.written_now ≡ e.written_before)
 
--- what a command made in memory: the text of a plan, an execution that is over and the text of its lists, or a failure
+-- what a command made in memory: `plan` the text of a plan, `apply` an execution of the file's lists that is over and the text of
+-- its lists, either of them a failure
 abbrev pub IsMade : Verb → ClusterLists → Answer → Type 0
-IsMade verb file (Planned text) = IsDoneText verb file text.items
+IsMade verb file (Planned text) = (verb ≡ asks.Plan) × IsDoneText verb file text.items
 IsMade verb file (Applied exec text) =
-    (exec.base ≡ file.lists) × (first_unfinished exec ≡ None) × (text.items ≡ assignment_text file.cluster.parts (lists_now exec) ++ 10 ∷ []) × IsDoneText verb file text.items
+    (verb ≡ asks.Apply) × (exec.base ≡ file.lists) × (first_unfinished exec ≡ None)
+    × (text.items ≡ assignment_text file.cluster.parts (lists_now exec) ++ 10 ∷ []) × IsDoneText verb file text.items
 IsMade verb file (Failure text) = IsFailureText file text.items
 
 -- an execution from the one assignment to the other that is over, and the text of its lists
