@@ -9,8 +9,8 @@ mod thin;
 mod turn;
 mod words;
 
-use cc_base::{HostFiles, HostSink, HostSource, HostStream, Sink, write_all_of};
-use quiet::run_quiet;
+use cc_base::{HostFiles, HostSink, HostSource, HostStream};
+use quiet::{End, conclude, run_quiet};
 use std::io::ErrorKind;
 use std::process::ExitCode;
 use std::{env, io};
@@ -24,14 +24,12 @@ fn words_of(rt: &HostRuntime) -> io::Result<Vec<String>> {
     Ok(words)
 }
 
-// The status of words that could not be had: too little memory, or a word that is no text.
-fn refuse_words<O: Sink>(err: &mut O, kind: ErrorKind) -> u8 {
+// How a run ends whose words can't be had: for want of memory, or for a word that is no text.
+fn end_without_words(kind: ErrorKind) -> End {
     if kind == ErrorKind::OutOfMemory {
-        let _ = write_all_of(err, b"want of memory\n");
-        9
+        End::Memory
     } else {
-        let _ = write_all_of(err, b"usage error\n");
-        2
+        End::Usage
     }
 }
 
@@ -39,7 +37,7 @@ fn main(rt: HostRuntime) -> ExitCode {
     let mut err = HostSink::new(HostStream::Err(rt.stderr()));
     let words = match words_of(&rt) {
         Ok(words) => words,
-        Err(e) => return ExitCode::from(refuse_words(&mut err, e.kind())),
+        Err(e) => return ExitCode::from(conclude(&mut err, end_without_words(e.kind()))),
     };
     let mut files = HostFiles::new(rt);
     let mut input = HostSource::new(rt.stdin());

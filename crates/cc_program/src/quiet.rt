@@ -134,8 +134,9 @@ fn line(end: End) -> &'static [u8]
     }
 }
 
-// Writes the end's line. A fault there changes nothing else.
-fn tell<O: Sink>(err: &mut O, end: End)
+/// Writes the end's line to the error stream, and answers its status. A fault of that stream changes nothing else.
+pub fn conclude<O: Sink>(err: &mut O, end: End) -> u8
+    ensures status { result ≡ status_of end }
     ensures told { IsTold (line_of end) (O.written err.old) (O.written err.new) (O.faults err.old) (O.faults err.new) }
     ensures later { O.faults err.old ≤ O.faults err.new }
 {
@@ -143,6 +144,7 @@ fn tell<O: Sink>(err: &mut O, end: End)
         Ok(()) => {}
         Err(_) => {}
     }
+    status(end)
 }
 
 /// Runs a command that waits for nobody, and answers the exit status: 0 where it is
@@ -190,6 +192,5 @@ pub fn run_quiet<R: Threads + Sync, F: Files, I: Source, O: Sink>(
     ensures err_later { O.faults err.old ≤ O.faults err.new }
 {
     let end = run(alloc, words, files, out);
-    tell(err, end);
-    status(end)
+    conclude(err, end)
 }

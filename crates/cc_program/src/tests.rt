@@ -274,7 +274,8 @@ fn three_brokers(alloc: Global) -> Result<Loaded, Fail> {
 #[test]
 fn lists_actions(rt: HostRuntime) -> Result<(), Fail> {
     let loaded = three_brokers(rt.alloc())?;
-    let actions = all_actions(rt.alloc(), &loaded.case, &loaded.lists)?;
+    let case = loaded.case.copy(rt.alloc())?;
+    let actions = all_actions(rt.alloc(), &case, &loaded.lists)?;
     let away = Action::Move {
         part: 0,
         from: 0,

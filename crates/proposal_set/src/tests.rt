@@ -84,6 +84,7 @@ fn asks_for_what_changes(rt: HostRuntime) -> Result<(), Fail> {
         .iter()
         .zip([(1, [2, 3], [3, 2]), (2, [3, 1], [3, 2])])
     {
+        let change = change.copy(alloc)?;
         assert_eq!(rt; change.part, want.0);
         assert_eq!(rt; change.before.as_slice(), want.1.as_slice());
         assert_eq!(rt; change.after.as_slice(), want.2.as_slice());
