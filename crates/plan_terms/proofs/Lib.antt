@@ -1,4 +1,5 @@
 pub mod Complete
+pub mod DigitLemmas
 pub mod EffectLemmas
 pub mod FaultLemmas
 pub mod GoalLemmas

@@ -28,3 +28,13 @@ pub record Belongs (c : Cluster) (lists : Lists) : Type 0 where
   pub one_each : length lists ≡ length c.parts
   pub lists_are : AreReplicaLists lists
   pub known : All (λ list. list_all (is_known c) list ≡ true) lists
+
+-- the lists of a plan in the making, with the cluster whose loads they put on brokers
+pub record Book : Type 0 where
+  pub cluster : Cluster
+  pub lists : Lists
+
+-- the book was made for the cluster as it stands, and its lists belong to it
+pub record IsBookOf (c : Cluster) (b : Book) : Type 0 where
+  pub cluster_is : b.cluster ≡ c
+  pub lists_belong : Belongs c b.lists

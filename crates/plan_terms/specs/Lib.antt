@@ -1,6 +1,7 @@
 pub mod Belongs
 pub mod Change
 pub mod Cluster
+pub mod Digits
 pub mod Effect
 pub mod Examples
 pub mod Faults

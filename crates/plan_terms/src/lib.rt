@@ -4,6 +4,7 @@
 
 mod actions;
 mod cluster;
+mod digits;
 mod faults;
 mod laws;
 mod lists;
@@ -12,6 +13,7 @@ mod texts;
 
 pub use actions::{Action, Actions, Turns};
 pub use cluster::{Broker, BrokerState, Loads, Options, Part, Res4};
+pub use digits::read_digits;
 pub use faults::{CaseFault, Limit, Memory};
 pub use laws::{
     definitions_on_examples, each_action_is_listed_once, legal_actions_keep_lists,

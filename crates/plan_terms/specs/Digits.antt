@@ -1,0 +1,24 @@
+-- Numbers written in decimal digits.
+use Rattle.std.specs.Prelude.{ℕ, ◌+◌, ◌-◌, ◌*◌, ◌==◌, Bool, ◌&&◌, nat_le, nat_lt, List, [], ◌∷◌, length, Option, Some, None, if◌then◌else◌}
+use Rattle.std.specs.List.{list_all, position_or_len}
+
+-- an ASCII digit
+abbrev pub is_digit : ℕ → Bool
+is_digit b = nat_le 48 b && nat_le b 57
+
+-- the number that digits spell, behind digits that spell n
+abbrev pub number_after : ℕ → List ℕ → ℕ
+number_after n [] = n
+number_after n (d ∷ ds) = number_after (10 * n + (d - 48)) ds
+
+-- the number that 1 to `most` digits spell; leading zeros are good
+unfoldable pub number_of : ℕ → List ℕ → Option ℕ
+number_of most text = if nat_le 1 (length text) && nat_le (length text) most && list_all is_digit text then Some (number_after 0 text) else None
+
+-- a decimal point
+abbrev pub is_point : ℕ → Bool
+is_point b = b == 46
+
+-- a point stands in the text
+abbrev pub has_point : List ℕ → Bool
+has_point text = nat_lt (position_or_len is_point text) (length text)
