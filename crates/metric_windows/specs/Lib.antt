@@ -1,0 +1,4 @@
+pub mod Averages
+pub mod Samples
+pub mod Tables
+pub mod StandsFor

@@ -1,0 +1,13 @@
+//! Metric samples of partitions, averaged over windows of time, as Cruise Control does it.
+#![tactic(auto)]
+
+mod cell;
+mod fault;
+mod tally;
+#[cfg(test)]
+mod tests;
+mod windows;
+
+pub use fault::SampleFault;
+pub use plan_terms::{Loads, Memory, Res4};
+pub use windows::Windows;

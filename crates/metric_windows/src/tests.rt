@@ -1,0 +1,98 @@
+// Samples of three partitions, in windows of a second. Three windows are kept, three samples make a value, two values
+// make a load.
+ghost use Rattle.std.specs.Prelude.{◌≡◌};
+ghost use Rattle.metric_windows.specs.Averages.{IsLoads};
+
+use super::*;
+use std::process::Abort;
+use std::test::Fail;
+
+fn loads(n: u16) -> Loads
+    ensures { IsLoads result }
+{
+    let n = u64::from(n);
+    Loads {
+        lead: [n, n + 1, n + 2, n + 3],
+        follow: [n, n, 0, n + 4],
+    }
+}
+
+#[derive(Clone, Copy)]
+struct Turn {
+    part: u32,
+    time: u64,
+    n: u16,
+    want: Result<(), SampleFault>,
+}
+
+fn taken(part: u32, time: u64, n: u16, want: Result<(), SampleFault>) -> Turn {
+    Turn {
+        part,
+        time,
+        n,
+        want,
+    }
+}
+
+fn add_all(rt: &impl Abort, windows: &mut Windows, turns: &[Turn])
+    requires { windows.old.parts ≡ 3 }
+    ensures { windows.new.parts ≡ 3 }
+{
+    for turn in turns {
+        assert!(rt; turn.part < 3);
+        let got = windows.add(turn.part, turn.time, loads(turn.n));
+        assert_eq!(rt; got, turn.want, "at {}", turn.time);
+    }
+}
+
+fn numbers(load: Option<Loads>) -> Option<([u64; 4], [u64; 4])> {
+    let load = load?;
+    let lead = load.lead;
+    let follow = load.follow;
+    Some((lead, follow))
+}
+
+#[test]
+fn averages_over_windows(rt: HostRuntime) -> Result<(), Fail> {
+    let mut windows = Windows::new(rt.alloc(), 3, 1000, 3, 3, 2)?;
+    assert_eq!(rt; windows.coverage(), (0, 3));
+
+    let turns = [
+        taken(0, 0, 10, Ok(())),
+        taken(0, 500, 11, Ok(())),
+        taken(0, 999, 13, Ok(())),
+        taken(0, 1000, 5, Ok(())),
+        taken(0, 2000, 20, Ok(())),
+        taken(0, 2001, 20, Ok(())),
+        taken(0, 2002, 21, Ok(())),
+        taken(1, 1000, 7, Ok(())),
+        taken(1, 1001, 8, Ok(())),
+        taken(1, 2000, 9, Ok(())),
+    ];
+    add_all(&rt, &mut windows, &turns);
+    // The values are 11, 14 by all three windows, and 20.
+    assert_eq!(rt;
+        numbers(windows.load_of(0)),
+        Some(([15, 16, 17, 18], [15, 15, 0, 19]))
+    );
+    // Two samples make a value, one doesn't.
+    assert_eq!(rt; numbers(windows.load_of(1)), None);
+    assert_eq!(rt; windows.coverage(), (1, 3));
+
+    let turns = [
+        taken(1, 5500, 1, Ok(())),
+        taken(0, 2999, 1, Err(SampleFault::TooOld(3))),
+        taken(0, 3000, 100, Ok(())),
+        taken(0, 3001, 100, Ok(())),
+        taken(0, 4000, 101, Ok(())),
+        taken(0, 4001, 102, Ok(())),
+    ];
+    add_all(&rt, &mut windows, &turns);
+    assert_eq!(rt;
+        numbers(windows.load_of(0)),
+        Some(([100, 101, 102, 103], [100, 100, 0, 104]))
+    );
+    assert_eq!(rt; numbers(windows.load_of(1)), None);
+    assert_eq!(rt; windows.coverage(), (1, 3));
+    Ok(())
+}
