@@ -1,5 +1,4 @@
-// Samples of three partitions, in windows of a second. Three windows are kept, three samples make a value, two values
-// make a load.
+// Samples in windows of a second, three of which are kept.
 ghost use Rattle.std.specs.Prelude.{◌≡◌};
 ghost use Rattle.metric_windows.specs.Averages.{IsLoads};
 
@@ -34,12 +33,12 @@ fn taken(part: u32, time: u64, n: u16, want: Result<(), SampleFault>) -> Turn {
     }
 }
 
-fn add_all(rt: &impl Abort, windows: &mut Windows, turns: &[Turn])
-    requires { windows.old.parts ≡ 3 }
-    ensures { windows.new.parts ≡ 3 }
+fn add_all(rt: &impl Abort, windows: &mut Windows, parts: u32, turns: &[Turn])
+    requires { windows.old.parts ≡ parts }
+    ensures { windows.new.parts ≡ parts }
 {
     for turn in turns {
-        assert!(rt; turn.part < 3);
+        assert!(rt; turn.part < parts);
         let got = windows.add(turn.part, turn.time, loads(turn.n));
         assert_eq!(rt; got, turn.want, "at {}", turn.time);
     }
@@ -52,8 +51,36 @@ fn numbers(load: Option<Loads>) -> Option<([u64; 4], [u64; 4])> {
     Some((lead, follow))
 }
 
+fn last(load: Option<Loads>) -> Option<u64> {
+    let lead = load?.lead;
+    Some(lead[3])
+}
+
 #[test]
-fn averages_over_windows(rt: HostRuntime) -> Result<(), Fail> {
+fn one_sample_is_half_of_two(rt: HostRuntime) -> Result<(), Fail> {
+    let mut windows = Windows::new(rt.alloc(), 1, 1000, 3, 2, 1)?;
+    let turns = [
+        taken(0, 100, 7, Ok(())),
+        taken(0, 200, 17, Ok(())),
+        taken(0, 1100, 28, Ok(())),
+    ];
+    add_all(&rt, &mut windows, 1, &turns);
+    // DISK was 10, 20 and 31.
+    assert_eq!(rt; last(windows.load_of(0)), Some(23));
+    add_all(&rt, &mut windows, 1, &[taken(0, 4000, 37, Ok(()))]);
+    assert_eq!(rt; last(windows.load_of(0)), Some(40));
+    add_all(
+        &rt,
+        &mut windows,
+        1,
+        &[taken(0, 1900, 1, Err(SampleFault::TooOld(2)))],
+    );
+    assert_eq!(rt; last(windows.load_of(0)), Some(40));
+    Ok(())
+}
+
+#[test]
+fn averages_three_samples_and_two_windows(rt: HostRuntime) -> Result<(), Fail> {
     let mut windows = Windows::new(rt.alloc(), 3, 1000, 3, 3, 2)?;
     assert_eq!(rt; windows.coverage(), (0, 3));
 
@@ -69,7 +96,7 @@ fn averages_over_windows(rt: HostRuntime) -> Result<(), Fail> {
         taken(1, 1001, 8, Ok(())),
         taken(1, 2000, 9, Ok(())),
     ];
-    add_all(&rt, &mut windows, &turns);
+    add_all(&rt, &mut windows, 3, &turns);
     // The values are 11, 14 by all three windows, and 20.
     assert_eq!(rt;
         numbers(windows.load_of(0)),
@@ -87,7 +114,7 @@ fn averages_over_windows(rt: HostRuntime) -> Result<(), Fail> {
         taken(0, 4000, 101, Ok(())),
         taken(0, 4001, 102, Ok(())),
     ];
-    add_all(&rt, &mut windows, &turns);
+    add_all(&rt, &mut windows, 3, &turns);
     assert_eq!(rt;
         numbers(windows.load_of(0)),
         Some(([100, 101, 102, 103], [100, 100, 0, 104]))

@@ -1,10 +1,10 @@
 // The windows of all partitions.
-ghost use Rattle.std.specs.Prelude.{◌≡◌, ◌<◌, ◌≤◌, ◌+◌, ◌*◌, ◌/◌, ◌++◌, ◌∷◌, [], ℕ, List, Option, Some, None, IsTrue, IfOk, IfErr, IfSome, OnOk, OnErr, length, false, is_some};
+ghost use Rattle.std.specs.Prelude.{◌≡◌, ◌<◌, ◌≤◌, ◌+◌, ◌++◌, ◌∷◌, [], List, Some, IfOk, IfErr, IfSome, OnOk, OnErr, length, is_some};
 ghost use Rattle.std.specs.Bool.{OnTrue};
 ghost use Rattle.metric_windows.specs.Averages.{IsLoads};
-ghost use Rattle.metric_windows.specs.Samples.{Rules, AreInRange, Sample, is_past, is_kept, oldest_kept, has_neighbours, window_of, half, later, kept_windows, enough_mean, load_of, coverage, refusal};
-ghost use Rattle.metric_windows.specs.Tables.{place, tally_in, after_sample, stored, with_some, value_in, values_in, tally_of, IsTally, joined};
+ghost use Rattle.metric_windows.specs.Samples.{AreInRange, Sample, is_past, oldest_kept, has_neighbours, half, enough_mean, load_of, coverage, refusal};
 ghost use Rattle.metric_windows.specs.StandsFor.{StandsFor};
+ghost use Rattle.metric_windows.specs.Tables.{place, tally_in, stored, with_some, value_in, values_in, tally_of, IsTally};
 
 use crate::SampleFault;
 use crate::cell::Cell;
@@ -18,8 +18,10 @@ pub const MAX_SAMPLES: u32 = 65_536;
 
 /// Samples of the loads of partitions, averaged over windows of time.
 ///
-/// A window is a span of `width` milliseconds. The newest `keep` windows are kept, counted back from that of the newest
-/// sample. Only the number and the sums of the samples are stored, so memory and time don't grow with their number.
+/// A window is a span of `width` milliseconds, and the one of a time is `time / width`, rounded down. The last `keep`
+/// windows up to the greatest one that has a sample are kept. Only the number and the sums of the samples are stored, so
+/// memory and time don't grow with their number. The idea is that of Cruise Control's metric windows (the Cruise Control
+/// wiki); the rules in detail are this project's own.
 #[derive(Drop)]
 pub struct Windows {
     width: u64,
@@ -148,10 +150,10 @@ impl Windows {
         };
     }
 
-    /// Adds a sample of a partition, taken at a time in milliseconds.
+    /// Adds a sample of a partition, taken at a time in milliseconds. Each load is below 2^32. It takes no memory.
     ///
-    /// It is refused where its window is no longer kept, or else where the partition has 65,536 samples in the window.
-    /// A refusal changes nothing.
+    /// A sample is refused where its window is no longer kept, or else where the partition has 65,536 samples in the
+    /// window. A refusal changes nothing.
     pub fn add(&mut self, part: u32, time: u64, sample: Loads) -> Result<(), SampleFault>
         requires part { part < self.old.parts }
         requires loads { IsLoads sample }
@@ -273,6 +275,7 @@ impl Windows {
         }
     }
 
+    // Whether there are enough.
     fn has_load(&self, part: u32) -> bool
         requires { part < self.now.parts }
         ensures { result ≡ is_some (enough_mean self.now.rules.need (values_in self.now part)) }
@@ -283,9 +286,9 @@ impl Windows {
     /// The load of a partition: the average of the values of the kept windows that have one, number by number and
     /// rounded down. `None` exactly where fewer than `need` of them have one.
     ///
-    /// A window's value is the average of its samples, where there are `least` of them or at least half of that, rounded
-    /// up. With fewer it is the average of the samples of the window and those before and after, where both are kept
-    /// and have `least` samples each.
+    /// A window's value is the average of its samples, where there are `least` of them, or at least half as many, rounded
+    /// up (AVG_AVAILABLE). With fewer it is the average of all samples of the window and those before and after, where
+    /// both are kept and have `least` samples each (AVG_ADJACENT). It takes no memory.
     pub fn load_of(&self, part: u32) -> Option<Loads>
         requires { part < self.now.parts }
         ensures value { (samples : List Sample) → StandsFor self.now samples → result ≡ load_of self.now.rules samples part }
@@ -295,7 +298,7 @@ impl Windows {
         self.load(part)
     }
 
-    /// How many partitions have a load, and how many there are.
+    /// How many partitions have a load, and how many there are. It takes no memory.
     pub fn coverage(&self) -> (u32, u32)
         ensures { (samples : List Sample) → StandsFor self.now samples → result ≡ coverage self.now.rules self.now.parts samples }
     {
