@@ -1,0 +1,7 @@
+use Rattle.std.proofs.Common.{refl}
+use Rattle.cluster_json.specs.Config.{options_of}
+use Rattle.cluster_json.proofs.config.options_of.Goals as goal
+
+pub returns : goal.returns
+unfolding options_of
+returns c = rw (c.in_ok-limits_of.ensures, c.in_ok-balances_of.ensures, c.in_ok-balance.ensures, c.in_ok-balance-2.ensures, c.in_ok-balance-3.ensures, c.in_ok-most.ensures.value) refl

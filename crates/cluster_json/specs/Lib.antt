@@ -1,0 +1,14 @@
+pub mod Brokers
+pub mod Capacities
+pub mod Config
+pub mod Faults
+pub mod File
+pub mod Loads
+pub mod Partitions
+pub mod Places
+pub mod Ranges
+pub mod Reading
+pub mod Samples
+pub mod Settings
+pub mod Shapes
+pub mod Views

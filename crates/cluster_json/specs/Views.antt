@@ -1,0 +1,35 @@
+-- What was read, without where it lies in memory.
+use Rattle.std.specs.Prelude.{ℕ, List, map, Option, option_map}
+use Rattle.std.specs.HashMap.{HashMap}
+use Rattle.std.specs.declared.hash.FoldHasher.{FoldHasher}
+use Rattle.std.specs.declared.hash.BuildHasherDefault.{BuildHasherDefault}
+use Rattle.cluster_json.specs.Capacities.{Owner, Entry}
+use Rattle.cluster_json.specs.File.{FileMembers, Meaning}
+use Rattle.cluster_json.specs.declared.file.ClusterFile.{ClusterFile}
+use Rattle.cluster_json.specs.declared.file.FileMembers.{FileMembers as RustMembers}
+use Rattle.cluster_json.specs.declared.samples.FileSample.{FileSample}
+use Rattle.cluster_json.specs.declared.samples.Placed.{Placed}
+
+-- the entries of a file, where it has them
+abbrev pub entries_seen : Option (HashMap Owner (List ℕ) (BuildHasherDefault FoldHasher)) → Option (List Entry)
+entries_seen = option_map (λ m. m.entries)
+
+-- a sample with the place of its partition
+abbrev pub sample_seen : Placed → FileSample
+sample_seen s = record { part = s.place; time = s.time; loads = s.loads }
+
+-- the members of a file
+abbrev pub members_seen : RustMembers → FileMembers
+members_seen m = record { brokers = m.brokers.items; parts = m.parts.items; config = m.config; samples = map sample_seen m.samples.items }
+
+-- a file
+abbrev pub file_seen : ClusterFile → Meaning
+file_seen f = record {
+  cluster = f.case;
+  lists = f.lists;
+  caps = f.caps;
+  rules = f.rules;
+  ratio = f.ratio;
+  with_load = f.with_load.items;
+  samples = f.samples.items;
+}

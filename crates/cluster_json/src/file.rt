@@ -1,0 +1,218 @@
+// A whole cluster file.
+ghost use Rattle.std.specs.Prelude.{◌≡◌, ◌≤◌, [], codes, map, option_map, length, slice_index, IfOk};
+ghost use Rattle.std.specs.List.{All};
+ghost use Rattle.plan_terms.specs.Belongs.{Belongs};
+ghost use Rattle.plan_terms.specs.Faults.{case_fault, lists_fault};
+ghost use Rattle.serde_json.specs.View.{view};
+ghost use Rattle.cluster_json.specs.File.{cluster_at, file_at, meaning_of, members_at, unless, version_at};
+ghost use Rattle.cluster_json.specs.Ranges.{AreCaps, AreLoads, AreRules, IsFile, IsSample, IsShare};
+ghost use Rattle.cluster_json.specs.Reading.{Gives};
+ghost use Rattle.cluster_json.specs.Shapes.{inside, required};
+ghost use Rattle.cluster_json.specs.Views.{file_seen, members_seen, sample_seen};
+
+use crate::FileRefusal;
+use crate::brokers::brokers_in;
+use crate::capacities::{all_equipped, entries_in};
+use crate::config::{Caps3, Config, WindowRules, config_in};
+use crate::partitions::{FilePart, parts_in};
+use crate::refusal::{in_member, wrong_shape};
+use crate::samples::{FileSample, Placed, narrowed, samples_in};
+use crate::shape::check_object;
+use load_model::{Assign, Case, CaseFault};
+use plan_terms::{Broker, Memory, Part, Ratio};
+use serde_json::Value;
+use std::alloc::Global;
+
+/// What a cluster file means.
+#[derive(Drop)]
+pub struct ClusterFile {
+    /// The brokers and partitions, with the loads that the file gives, and the goals' thresholds.
+    pub case: Case,
+    /// The replica list of each partition.
+    pub lists: Assign,
+    pub caps: Caps3,
+    pub rules: WindowRules,
+    /// The share of partitions that have to have a load, at most 1.
+    pub ratio: Ratio,
+    /// For each partition, whether the file gives its loads.
+    pub with_load: Vec<bool>,
+    /// The samples, in the order of the file.
+    pub samples: Vec<FileSample>,
+}
+
+/// The members of a file.
+#[derive(Drop)]
+pub struct FileMembers {
+    pub brokers: Vec<Broker>,
+    pub parts: Vec<FilePart>,
+    pub config: Config,
+    pub samples: Vec<Placed>,
+}
+
+/// The partitions, their lists, and whether the file gives their loads.
+#[derive(Drop)]
+pub struct Columns {
+    pub parts: Vec<Part>,
+    pub lists: Vec<Vec<u32>>,
+    pub with_load: Vec<bool>,
+}
+
+#[tactic(auto, unfolding(crate::specs::File::version_at))]
+fn check_version(alloc: Global, value: Option<&Value>) -> Result<(), FileRefusal>
+    ensures { Gives (λ u. u) result (required version_at (option_map (λ v. view v.now) value.entry)) }
+{
+    let Some(value) = value else {
+        return Err(wrong_shape(alloc));
+    };
+    let Some(number) = value.as_number() else {
+        return Err(wrong_shape(alloc));
+    };
+    match number.as_u64() {
+        Some(1) => Ok(()),
+        _ => Err(FileRefusal::UnsupportedVersion),
+    }
+}
+
+#[tactic(auto, using(crate::proofs::Fails::fails_under))]
+fn version_in(alloc: Global, object: &Value) -> Result<(), FileRefusal>
+    ensures { Gives (λ u. u) result (inside (codes "version") (required version_at) (view object.now)) }
+{
+    match check_version(alloc, object.get("version")) {
+        Ok(()) => Ok(()),
+        Err(e) => Err(in_member(alloc, "version", e)),
+    }
+}
+
+#[tactic(auto, unfolding(crate::specs::File::members_at))]
+fn read_members(alloc: Global, value: &Value) -> Result<FileMembers, FileRefusal>
+    ensures means { Gives members_seen result (members_at (view value.now)) }
+    ensures loads { IfOk result (λ m. All (λ p. AreLoads p.part.loads) m.parts.items) }
+    ensures caps { IfOk result (λ m. AreCaps m.config.caps) }
+    ensures rules { IfOk result (λ m. AreRules m.config.rules) }
+    ensures share { IfOk result (λ m. IsShare m.config.ratio) }
+    ensures samples { IfOk result (λ m. All (λ s. IsSample (length m.parts.items) (sample_seen s)) m.samples.items) }
+{
+    check_object(alloc, value)?;
+    version_in(alloc, value)?;
+    let named = brokers_in(alloc, value)?;
+    let entries = entries_in(alloc, value)?;
+    let brokers = all_equipped(alloc, &entries, named)?;
+    let parts = parts_in(alloc, value)?;
+    let config = config_in(alloc, value)?;
+    let samples = samples_in(alloc, &parts, value)?;
+    Ok(FileMembers {
+        brokers,
+        parts,
+        config,
+        samples,
+    })
+}
+
+fn split(alloc: Global, file_parts: Vec<FilePart>) -> Result<Columns, Memory>
+    ensures parts { IfOk result (λ c. c.parts.items ≡ map (λ p. p.part) file_parts.items) }
+    ensures lists { IfOk result (λ c. map (λ list. list.items) c.lists.items ≡ map (λ p. p.replicas) file_parts.items) }
+    ensures with_load { IfOk result (λ c. c.with_load.items ≡ map (λ p. p.with_load) file_parts.items) }
+    ensures one_each { IfOk result (λ c. length c.lists.items ≡ length c.parts.items) }
+{
+    let mut parts = Vec::new(alloc);
+    let mut lists = Vec::new(alloc);
+    let mut with_load = Vec::new(alloc);
+    for file_part in file_parts {
+        parts.push(file_part.part)?;
+        lists.push(file_part.replicas.into_vec())?;
+        with_load.push(file_part.with_load)?;
+    }
+    Ok(Columns {
+        parts,
+        lists,
+        with_load,
+    })
+}
+
+// The case of a file's brokers and partitions.
+fn case_of(
+    alloc: Global,
+    brokers: Vec<Broker>,
+    parts: Vec<Part>,
+    config: &Config,
+) -> Result<Case, FileRefusal>
+    requires { All (λ p. slice_index p.loads.follow 2 ≡ 0) parts.items }
+    ensures means { Gives (λ c. tt) result (unless (case_fault brokers.items parts.items)) }
+    ensures case { IfOk result (λ c. c ≡ record { brokers = brokers.items; parts = parts.items; options = config.now.options }) }
+{
+    match Case::new(alloc, brokers, parts, config.options) {
+        Ok(case) => Ok(case),
+        Err(CaseFault::Memory) => Err(FileRefusal::Memory),
+        Err(fault) => Err(FileRefusal::Case(fault)),
+    }
+}
+
+// The assignment of a file's lists.
+fn assignment_of(alloc: Global, case: &Case, lists: Vec<Vec<u32>>) -> Result<Assign, FileRefusal>
+    requires { length lists.items ≡ length case.now.parts }
+    ensures means { Gives (λ a. tt) result (unless (lists_fault case.now (map (λ list. list.items) lists.items))) }
+    ensures lists { IfOk result (λ a. a ≡ map (λ list. list.items) lists.items) }
+    ensures belongs { IfOk result (Belongs case.now) }
+{
+    match Assign::new(alloc, case, lists) {
+        Ok(lists) => Ok(lists),
+        Err(CaseFault::Memory) => Err(FileRefusal::Memory),
+        Err(fault) => Err(FileRefusal::Case(fault)),
+    }
+}
+
+// The file that the members make.
+#[tactic(auto, unfolding(crate::specs::File::cluster_at))]
+fn load(alloc: Global, members: FileMembers) -> Result<ClusterFile, FileRefusal>
+    requires loads { All (λ p. AreLoads p.part.loads) members.parts.items }
+    requires caps { AreCaps members.config.caps }
+    requires rules { AreRules members.config.rules }
+    requires share { IsShare members.config.ratio }
+    requires samples { All (λ s. IsSample (length members.parts.items) (sample_seen s)) members.samples.items }
+    ensures means { Gives file_seen result (cluster_at (members_seen members)) }
+    ensures file { IfOk result IsFile }
+{
+    let FileMembers {
+        brokers,
+        parts,
+        config,
+        samples,
+    } = members;
+    let columns = split(alloc, parts)?;
+    let case = case_of(alloc, brokers, columns.parts, &config)?;
+    let lists = assignment_of(alloc, &case, columns.lists)?;
+    let samples = narrowed(alloc, case.parts().len(), samples)?;
+    Ok(ClusterFile {
+        case,
+        lists,
+        caps: config.caps,
+        rules: config.rules,
+        ratio: config.ratio,
+        with_load: columns.with_load,
+        samples,
+    })
+}
+
+// The meaning of a JSON value.
+#[tactic(auto, unfolding(crate::specs::File::file_at))]
+fn read_file(alloc: Global, value: &Value) -> Result<ClusterFile, FileRefusal>
+    ensures means { Gives file_seen result (file_at (view value.now)) }
+    ensures file { IfOk result IsFile }
+{
+    let members = read_members(alloc, value)?;
+    load(alloc, members)
+}
+
+/// Reads a cluster file, or tells its first fault: bytes that are no JSON (RFC 8259); the version; then the members in the
+/// order `brokers`, `brokerCapacities`, `partitions`, `config` and `samples`, lists by index and objects in the order of
+/// the documented table; and last what makes no cluster.
+pub fn read_cluster(alloc: Global, bytes: &[u8]) -> Result<ClusterFile, FileRefusal>
+    ensures means { Gives file_seen result (meaning_of bytes.now) }
+    ensures file { IfOk result IsFile }
+{
+    match Value::from_slice(alloc, bytes) {
+        Ok(value) => read_file(alloc, &value),
+        Err(e) if e.is_memory() => Err(FileRefusal::Memory),
+        Err(_) => Err(FileRefusal::NotJson),
+    }
+}
