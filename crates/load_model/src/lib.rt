@@ -6,6 +6,7 @@ mod book;
 mod case;
 mod limits;
 mod repeats;
+mod topics;
 
 pub use assign::Assign;
 pub use book::LoadBook;
