@@ -1,6 +1,7 @@
 //! A cluster as one request sees it, an assignment of its partitions, and the book of a plan in the making.
 #![tactic(auto)]
 
+mod amounts;
 mod assign;
 mod book;
 mod case;
