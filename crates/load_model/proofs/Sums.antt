@@ -122,7 +122,7 @@ amount-small kind c b lists h k =
       arith,
       limits.few_parts,
       sum_parts-le (lead_of kind c.parts) (follow_of kind c.parts) b 34359738360 c.parts lists
-      (λ i l. list_load-le (lead_at kind c.parts i) (follow_at kind c.parts i) b 4294967295 (list_of lists i) (lead i) (follow i) (short-at lists i k)),
+          (λ i l. list_load-le (lead_at kind c.parts i) (follow_at kind c.parts i) b 4294967295 (list_of lists i) (lead i) (follow i) (short-at lists i k)),
     )
 
 abbrev unit_if : Bool → ℕ
@@ -175,5 +175,5 @@ amount-few kind c b lists h k one =
       arith,
       limits.few_parts,
       sum_parts-le (lead_of kind c.parts) (follow_of kind c.parts) b 8 c.parts lists
-      (λ i l. list_load-le (lead_at kind c.parts i) (follow_at kind c.parts i) b 1 (list_of lists i) (lead i) (follow i) (short-at lists i k)),
+          (λ i l. list_load-le (lead_at kind c.parts i) (follow_at kind c.parts i) b 1 (list_of lists i) (lead i) (follow i) (short-at lists i k)),
     )

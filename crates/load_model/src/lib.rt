@@ -7,6 +7,8 @@ mod book;
 mod case;
 mod limits;
 mod repeats;
+#[cfg(test)]
+mod tests;
 mod topics;
 
 pub use assign::Assign;

@@ -15,8 +15,8 @@ pub overflow_add-total : goal.overflow_add-total
 overflow_add-total c =
     let parts = c.args.case.now.parts in
     let next = sum_parts-next (lead_of c.args.kind parts) (follow_of c.args.kind parts) c.args.broker parts c.args.lists.now c.loop-part.part c.loop-part.total c.list_amount-total.result
-          (sum_parts (share c.args.kind parts c.args.broker) parts c.args.lists.now) c.requires.one_each (rw c.parts-parts.ensures.value at c.loop-part-test.true)
-          (rw (c.weights_at.ensures.lead, c.weights_at.ensures.follow, c.list.ensures) at c.list_amount-total.ensures) c.loop-part.invariant in
+    (sum_parts (share c.args.kind parts c.args.broker) parts c.args.lists.now) c.requires.one_each (rw c.parts-parts.ensures.value at c.loop-part-test.true)
+    (rw (c.weights_at.ensures.lead, c.weights_at.ensures.follow, c.list.ensures) at c.list_amount-total.ensures) c.loop-part.invariant in
     omega (arith, next, amount-small c.args.kind c.args.case.now c.args.broker c.args.lists.now c.parts-parts.ensures.case c.lists-assignment.ensures.assignment)
 
 pub returns : goal.returns
