@@ -1,7 +1,7 @@
 // One goal's turn.
 ghost use Rattle.std.specs.Prelude.{◌≡◌, ◌≤◌, ◌↔◌, true, IsTrue, IfOk, MatchOption, map, length};
 ghost use Rattle.std.specs.List.{All, filter};
-ghost use Rattle.plan_terms.specs.Belongs.{Belongs};
+ghost use Rattle.plan_terms.specs.Belongs.{IsBookOf};
 ghost use Rattle.plan_terms.specs.Effect.{after_all};
 ghost use Rattle.plan_terms.specs.Fits.{fits, targets_known};
 ghost use Rattle.plan_terms.specs.Legal.{is_legal};
@@ -22,10 +22,10 @@ pub enum Kind {
 
 fn all_accept<G: Goal>(case: &Case, book: &LoadBook, earlier: &[G], action: Action) -> bool
     requires made { All (λ g. G.made_for g case.now) earlier.now }
-    requires belongs { Belongs case.now book.now }
-    requires applies { IsTrue (fits book.now action) }
+    requires belongs { IsBookOf case.now book.now }
+    requires applies { IsTrue (fits book.now.lists action) }
     requires known { IsTrue (targets_known case.now action) }
-    ensures { IsTrue result ↔ AllAccept (map (λ g. G.meaning g case.now) earlier.now) book.now action }
+    ensures { IsTrue result ↔ AllAccept (map (λ g. G.meaning g case.now) earlier.now) book.now.lists action }
 {
     for goal in earlier {
         if !goal.accepts(case, book, action) {
@@ -45,11 +45,11 @@ fn first_step<G: Goal>(
 ) -> Option<Action>
     requires made { All (λ g. G.made_for g case.now) earlier.now }
     requires made_goal { G.made_for goal.now case.now }
-    requires belongs { Belongs case.now book.now }
-    requires legal { All (λ a. is_legal case.now book.now a ≡ true) actions.now }
+    requires belongs { IsBookOf case.now book.now }
+    requires legal { All (λ a. is_legal case.now book.now.lists a ≡ true) actions.now }
     ensures { MatchOption result
-        (All (IsUnhelpful (map (λ g. G.meaning g case.now) earlier.now) (G.meaning goal.now case.now) book.now) actions.now)
-        (λ a. Step case.now (map (λ g. G.meaning g case.now) earlier.now) (G.meaning goal.now case.now) book.now a) }
+        (All (IsUnhelpful (map (λ g. G.meaning g case.now) earlier.now) (G.meaning goal.now case.now) book.now.lists) actions.now)
+        (λ a. Step case.now (map (λ g. G.meaning g case.now) earlier.now) (G.meaning goal.now case.now) book.now.lists a) }
 {
     for action in actions {
         if all_accept(case, book, earlier, *action) && goal.lessens(case, book, *action) {
@@ -67,7 +67,7 @@ fn legal_of(
     book: &LoadBook,
     part: u32,
 ) -> Result<Vec<Action>, Memory>
-    ensures { IfOk result (λ v. v.items ≡ filter (is_legal case.now book.now) (candidates_of kind case.now.brokers (length book.now) part)) }
+    ensures { IfOk result (λ v. v.items ≡ filter (is_legal case.now book.now.lists) (candidates_of kind case.now.brokers (length book.now.lists) part)) }
 {
     match kind {
         Kind::Moves => legal_moves(alloc, case, book.lists(), part),
@@ -87,10 +87,10 @@ fn next_of_kind<G: Goal>(
 ) -> Result<Option<Action>, Memory>
     requires made { All (λ g. G.made_for g case.now) earlier.now }
     requires made_goal { G.made_for goal.now case.now }
-    requires belongs { Belongs case.now book.now }
+    requires belongs { IsBookOf case.now book.now }
     ensures { IfOk result (λ next. MatchOption next
-        (All (IsUnhelpful (map (λ g. G.meaning g case.now) earlier.now) (G.meaning goal.now case.now) book.now) (legal_below kind case.now book.now (length book.now) (length book.now)))
-        (λ a. Step case.now (map (λ g. G.meaning g case.now) earlier.now) (G.meaning goal.now case.now) book.now a)) }
+        (All (IsUnhelpful (map (λ g. G.meaning g case.now) earlier.now) (G.meaning goal.now case.now) book.now.lists) (legal_below kind case.now book.now.lists (length book.now.lists) (length book.now.lists)))
+        (λ a. Step case.now (map (λ g. G.meaning g case.now) earlier.now) (G.meaning goal.now case.now) book.now.lists a)) }
 {
     let end = book.lists().len() as u32;
     for part in 0..end {
@@ -112,10 +112,10 @@ fn next_action<G: Goal>(
 ) -> Result<Option<Action>, Memory>
     requires made { All (λ g. G.made_for g case.now) earlier.now }
     requires made_goal { G.made_for goal.now case.now }
-    requires belongs { Belongs case.now book.now }
+    requires belongs { IsBookOf case.now book.now }
     ensures { IfOk result (λ next. MatchOption next
-        (NoneLeft case.now (map (λ g. G.meaning g case.now) earlier.now) (G.meaning goal.now case.now) book.now)
-        (λ a. Step case.now (map (λ g. G.meaning g case.now) earlier.now) (G.meaning goal.now case.now) book.now a)) }
+        (NoneLeft case.now (map (λ g. G.meaning g case.now) earlier.now) (G.meaning goal.now case.now) book.now.lists)
+        (λ a. Step case.now (map (λ g. G.meaning g case.now) earlier.now) (G.meaning goal.now case.now) book.now.lists a)) }
 {
     let next_move = next_of_kind(alloc, Kind::Moves, case, book, earlier, goal)?;
     if let Some(action) = next_move {
@@ -143,10 +143,10 @@ pub fn take_turn<G: Goal>(
 ) -> Result<Actions, Memory>
     requires made { All (λ g. G.made_for g case.now) earlier.now }
     requires made_goal { G.made_for goal.now case.now }
-    requires belongs { Belongs case.now book.old }
-    ensures turn { IfOk result (λ actions. Turn case.now (map (λ g. G.meaning g case.now) earlier.now) (G.meaning goal.now case.now) book.old actions) }
-    ensures end { IfOk result (λ actions. book.new ≡ after_all actions book.old) }
-    ensures belongs { IfOk result (λ actions. Belongs case.now book.new) }
+    requires belongs { IsBookOf case.now book.old }
+    ensures turn { IfOk result (λ actions. Turn case.now (map (λ g. G.meaning g case.now) earlier.now) (G.meaning goal.now case.now) book.old.lists actions) }
+    ensures end { IfOk result (λ actions. book.new.lists ≡ after_all actions book.old.lists) }
+    ensures belongs { IfOk result (λ actions. IsBookOf case.now book.new) }
 {
     let mut actions = Actions::new(alloc);
     'scan: while measure(goal, case, book) > 0 {

@@ -1,0 +1,3 @@
+pub mod Amounts
+pub mod Changed
+pub mod Places

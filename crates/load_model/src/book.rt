@@ -1,43 +1,65 @@
-// The lists of a plan in the making.
-ghost use Rattle.std.specs.Prelude.{◌≡◌, ◌<◌, IfOk, IsTrue, length, slice_set, false};
+// The lists of a plan in the making, with what they put on brokers.
+ghost use Rattle.std.specs.Prelude.{◌≡◌, ◌<◌, ◌≤◌, ◌^◌, IfOk, IsTrue, length, slice_set, true, false};
 ghost use Rattle.plan_terms.specs.Belongs.{Belongs, IsAssignment};
 ghost use Rattle.plan_terms.specs.Cluster.{list_of, has, is_known};
 ghost use Rattle.plan_terms.specs.Effect.{exchange_at};
+ghost use Rattle.plan_terms.specs.Faults.{IsCase, topics};
+ghost use Rattle.plan_terms.specs.Load.{count, leaders, load, leader_in, potential_out, topic_count};
+ghost use Rattle.load_model.specs.Amounts.{InRange, amount, counts_places};
+ghost use Rattle.load_model.specs.Places.{id_at, topic_at};
 
+use crate::amounts::{Amount, amount_of};
 use crate::{Assign, Case};
 use plan_terms::Memory;
 use std::alloc::Global;
 use std::marker::Model;
 
-/// The lists of a plan in the making, which actions change.
+/// The lists of a plan in the making, which actions change, with the cluster whose loads they put on brokers.
+///
+/// Brokers, partitions and topics go by their places in the case that the book was made for, which it keeps a copy of.
 #[derive(Drop)]
 pub struct LoadBook {
+    case: Case,
     lists: Assign,
 }
 
 impl Model for LoadBook {
-    ghost use Rattle.plan_terms.specs.Cluster.{Lists};
+    ghost use Rattle.std.specs.Prelude.{◌≡◌, length};
+    ghost use Rattle.plan_terms.specs.Belongs.{Book};
 
-    ghost Value = { Lists };
+    ghost Value = { Book };
 
-    ghost view = { λ b. b.lists };
+    ghost view = { λ b. record { cluster = b.case; lists = b.lists } };
+
+    ghost invariant = { λ b. length b.lists ≡ length b.case.parts };
 }
 
 impl LoadBook {
     /// The book of these lists.
     pub fn new(alloc: Global, case: &Case, lists: &Assign) -> Result<LoadBook, Memory>
         requires { Belongs case.now lists.now }
-        ensures { IfOk result (λ b. b ≡ lists.now) }
+        ensures { IfOk result (λ b. b ≡ record { cluster = case.now; lists = lists.now }) }
     {
         Ok(LoadBook {
+            case: case.copy(alloc)?,
             lists: lists.copy(alloc)?,
         })
     }
 
+    /// The case that the book was made for.
+    pub fn case(&self) -> &Case
+        ensures value { result.now ≡ self.now.cluster }
+        ensures case { IsCase self.now.cluster }
+    {
+        let _case = self.case.parts();
+        &self.case
+    }
+
     /// The lists as they stand.
     pub fn lists(&self) -> &Assign
-        ensures value { result.now ≡ self.now }
-        ensures assignment { IsAssignment self.now }
+        ensures value { result.now ≡ self.now.lists }
+        ensures assignment { IsAssignment self.now.lists }
+        ensures one_each { length self.now.lists ≡ length self.now.cluster.parts }
     {
         let _assignment = self.lists.lists();
         &self.lists
@@ -45,35 +67,107 @@ impl LoadBook {
 
     /// The lists as they stand, without a copy.
     pub fn into_lists(self) -> Assign
-        ensures { result ≡ self }
+        ensures { result ≡ self.lists }
     {
         self.lists
     }
 
     /// The list of a partition.
     pub fn list(&self, part: usize) -> &[u32]
-        requires { part < length self.now }
-        ensures { result.now ≡ list_of self.now part }
+        requires { part < length self.now.lists }
+        ensures { result.now ≡ list_of self.now.lists part }
     {
         self.lists.list(part)
     }
 
+    // What a broker carries in all.
+    fn amount(&self, kind: Amount, broker: usize) -> u64
+        requires broker { broker < length self.now.cluster.brokers }
+        requires range { InRange kind self.now.cluster.parts }
+        ensures value { result ≡ amount kind self.now.cluster.parts (id_at self.now.cluster.brokers broker) self.now.lists }
+        ensures small { result < 2 ^ 49 }
+        ensures few { counts_places kind ≡ true → result ≤ 80000 }
+    {
+        let id = self.case.brokers()[broker].id;
+        amount_of(&self.case, &self.lists, kind, id)
+    }
+
+    /// The load of a resource on a broker: the leader's of each partition that it leads, the follower's at each other
+    /// place. The resources are 0 CPU, 1 NW_IN, 2 NW_OUT, 3 DISK. Below 2^49.
+    pub fn load(&self, broker: usize, res: usize) -> u128
+        requires broker { broker < length self.now.cluster.brokers }
+        requires res { res < 4 }
+        ensures value { result ≡ load self.now.cluster res (id_at self.now.cluster.brokers broker) self.now.lists }
+        ensures small { result < 2 ^ 49 }
+    {
+        u128::from(self.amount(Amount::Load(res), broker))
+    }
+
+    /// The number of a broker's replicas, at most 80,000.
+    pub fn count(&self, broker: usize) -> u64
+        requires { broker < length self.now.cluster.brokers }
+        ensures value { result ≡ count (id_at self.now.cluster.brokers broker) self.now.lists }
+        ensures few { result ≤ 80000 }
+    {
+        let _one_each = self.lists();
+        self.amount(Amount::Replicas, broker)
+    }
+
+    /// The number of partitions that a broker leads, at most 80,000.
+    pub fn leaders(&self, broker: usize) -> u64
+        requires { broker < length self.now.cluster.brokers }
+        ensures value { result ≡ leaders (id_at self.now.cluster.brokers broker) self.now.lists }
+        ensures few { result ≤ 80000 }
+    {
+        let _one_each = self.lists();
+        self.amount(Amount::Leaders, broker)
+    }
+
+    /// What a broker would send to clients if it led each partition of which it is a member: the leaders' NW_OUT over
+    /// all its places. Below 2^49.
+    pub fn potential_out(&self, broker: usize) -> u128
+        requires { broker < length self.now.cluster.brokers }
+        ensures value { result ≡ potential_out self.now.cluster (id_at self.now.cluster.brokers broker) self.now.lists }
+        ensures small { result < 2 ^ 49 }
+    {
+        u128::from(self.amount(Amount::PotentialOut, broker))
+    }
+
+    /// The leaders' NW_IN over the partitions that a broker leads. Below 2^49.
+    pub fn leader_in(&self, broker: usize) -> u128
+        requires { broker < length self.now.cluster.brokers }
+        ensures value { result ≡ leader_in self.now.cluster (id_at self.now.cluster.brokers broker) self.now.lists }
+        ensures small { result < 2 ^ 49 }
+    {
+        u128::from(self.amount(Amount::LeaderIn, broker))
+    }
+
+    /// The number of a broker's replicas in a topic, by the topic's place among the topics. At most 80,000.
+    pub fn topic_count(&self, topic: usize, broker: usize) -> u64
+        requires topic { topic < length (topics self.now.cluster.parts) }
+        requires broker { broker < length self.now.cluster.brokers }
+        ensures value { result ≡ topic_count self.now.cluster (topic_at self.now.cluster.parts topic) (id_at self.now.cluster.brokers broker) self.now.lists }
+        ensures few { result ≤ 80000 }
+    {
+        self.amount(Amount::OfTopic(topic), broker)
+    }
+
     /// Puts a broker of the case that is no member at one place of one list.
     pub fn put(&mut self, case: &Case, part: usize, place: usize, broker: u32)
-        requires part { part < length self.old }
-        requires place { place < length (list_of self.old part) }
-        requires new { has (list_of self.old part) broker ≡ false }
+        requires part { part < length self.old.lists }
+        requires place { place < length (list_of self.old.lists part) }
+        requires new { has (list_of self.old.lists part) broker ≡ false }
         requires known { IsTrue (is_known case.now broker) }
-        ensures { self.new ≡ slice_set self.old part (slice_set (list_of self.old part) place broker) }
+        ensures { self.new ≡ record self.old { lists = slice_set self.old.lists part (slice_set (list_of self.old.lists part) place broker) } }
     {
         self.lists.put(part, place, broker);
     }
 
     /// Exchanges the first member of one list with the member at the place.
     pub fn exchange(&mut self, case: &Case, part: usize, place: usize)
-        requires part { part < length self.old }
-        requires place { place < length (list_of self.old part) }
-        ensures { self.new ≡ slice_set self.old part (exchange_at place (list_of self.old part)) }
+        requires part { part < length self.old.lists }
+        requires place { place < length (list_of self.old.lists part) }
+        ensures { self.new ≡ record self.old { lists = slice_set self.old.lists part (exchange_at place (list_of self.old.lists part)) } }
     {
         self.lists.exchange(part, place);
     }

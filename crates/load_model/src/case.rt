@@ -1,52 +1,64 @@
 // Brokers and partitions of a cluster, as one request sees them.
-ghost use Rattle.std.specs.Prelude.{◌≡◌, ◌≤◌, ◌≢◌, None, Some, IfOk, IfErr, OnOk, length, option_map, slice_index};
+ghost use Rattle.std.specs.Prelude.{◌≡◌, ◌≤◌, ◌<◌, ◌^◌, ◌≢◌, ℕ, None, Some, IfOk, IfErr, OnOk, length, map, option_map, position, slice_index, ◌==◌};
 ghost use Rattle.std.specs.List.{All};
 ghost use Rattle.plan_terms.specs.Cluster.{broker_of};
-ghost use Rattle.plan_terms.specs.Faults.{IsCase, case_fault};
+ghost use Rattle.plan_terms.specs.Faults.{IsCase, case_fault, topics};
+ghost use Rattle.load_model.specs.Changed.{with_state, with_loads, with_excluded};
+ghost use Rattle.load_model.specs.Places.{AreTopicPlaces, topic_at, topic_of};
 
 use crate::limits::broken_limit;
-use crate::repeats::{broker_repeat, part_repeat};
-use plan_terms::{Broker, CaseFault, Memory, Options, Part};
+use crate::repeats::{broker_ids, part_repeat};
+use crate::topics::{TopicPlaces, number_topics};
+use indexmap::IndexSet;
+use plan_terms::{Broker, BrokerState, CaseFault, Loads, Memory, Options, Part};
 use std::alloc::Global;
 use std::marker::Model;
 
 /// The brokers and the partitions of a cluster, each in their order, and the options of a request.
 ///
-/// A broker's place is its place here. Ids are distinct, and so are the pairs of topic and number.
+/// A broker's place is its place here, and a topic's that of its first partition among the topics. Ids are distinct, and
+/// so are the pairs of topic and number.
 #[derive(Drop)]
 pub struct Case {
     brokers: Vec<Broker>,
     parts: Vec<Part>,
     options: Options,
+    ids: IndexSet<u32>,
+    topics: TopicPlaces,
 }
 
 impl Model for Case {
     ghost use Rattle.plan_terms.specs.Cluster.{Cluster};
-    ghost use Rattle.plan_terms.specs.Faults.{IsCase};
+    ghost use Rattle.load_model.specs.Places.{IsIndexed};
 
     ghost Value = { Cluster };
 
     ghost view = { λ c. record { brokers = c.brokers.items; parts = c.parts.items; options = c.options } };
 
-    ghost invariant = { λ c. IsCase (record { brokers = c.brokers.items; parts = c.parts.items; options = c.options }) };
+    ghost invariant = { λ c. IsIndexed (record { brokers = c.brokers.items; parts = c.parts.items; options = c.options }) c.ids.keys c.topics.places.items c.topics.count };
 }
 
-// The first fault of brokers and partitions.
+// What a case keeps beside its brokers and partitions, or their first fault.
 #[tactic(auto, unfolding(plan_terms::specs::Faults::case_fault))]
-fn first_fault(
+fn index_of(
     alloc: Global,
     brokers: &[Broker],
     parts: &[Part],
-) -> Result<Option<CaseFault>, Memory>
-    ensures { IfOk result (λ fault. fault ≡ case_fault brokers.now parts.now) }
+) -> Result<(IndexSet<u32>, TopicPlaces), CaseFault>
+    ensures ids { IfOk result (λ kept. kept.0.keys ≡ map (λ b. b.id) brokers.now) }
+    ensures places { IfOk result (λ kept. AreTopicPlaces parts.now kept.1.places.items kept.1.count) }
+    ensures faultless { OnOk result (case_fault brokers.now parts.now ≡ None) }
+    ensures fault { IfErr result (λ e. e ≢ CaseFault.Memory → case_fault brokers.now parts.now ≡ Some e) }
 {
-    if let Some(limit) = broken_limit(alloc, brokers, parts)? {
-        return Ok(Some(CaseFault::OverLimit(limit)));
+    let topics = number_topics(alloc, parts)?;
+    if let Some(limit) = broken_limit(brokers, parts, topics.count) {
+        return Err(CaseFault::OverLimit(limit));
     }
-    if let Some(fault) = broker_repeat(brokers) {
-        return Ok(Some(fault));
+    let ids = broker_ids(alloc, brokers)?;
+    if let Some(fault) = part_repeat(alloc, parts)? {
+        return Err(fault);
     }
-    Ok(part_repeat(parts))
+    Ok((ids, topics))
 }
 
 fn copy_brokers(alloc: Global, brokers: &[Broker]) -> Result<Vec<Broker>, Memory>
@@ -84,14 +96,14 @@ impl Case {
         ensures faultless { OnOk result (case_fault brokers.items parts.items ≡ None) }
         ensures fault { IfErr result (λ e. e ≢ CaseFault.Memory → case_fault brokers.items parts.items ≡ Some e) }
     {
-        match first_fault(alloc, &brokers, &parts)? {
-            Some(fault) => Err(fault),
-            None => Ok(Case {
-                brokers,
-                parts,
-                options,
-            }),
-        }
+        let (ids, topics) = index_of(alloc, &brokers, &parts)?;
+        Ok(Case {
+            brokers,
+            parts,
+            options,
+            ids,
+            topics,
+        })
     }
 
     /// The brokers, at most 200.
@@ -121,11 +133,72 @@ impl Case {
         &self.options
     }
 
+    /// The place of the broker of this id.
+    pub fn place(&self, id: u32) -> Option<usize>
+        ensures { result ≡ position (λ b. b.id == id) self.now.brokers }
+    {
+        self.ids.get_index_of(&id)
+    }
+
     /// The broker of this id.
     pub fn broker(&self, id: u32) -> Option<&Broker>
         ensures { option_map (λ b. b.now) result ≡ broker_of self.now.brokers id }
     {
-        self.brokers.iter().find(|b| b.id == id)
+        match self.place(id) {
+            Some(place) => Some(&self.brokers[place]),
+            None => None,
+        }
+    }
+
+    /// The number of topics.
+    pub fn topics(&self) -> usize
+        ensures { result ≡ length (topics self.now.parts) }
+    {
+        self.topics.count
+    }
+
+    /// The place of a partition's topic among the topics, which stand in the order of their first partitions.
+    pub fn topic(&self, part: usize) -> usize
+        requires { part < length self.now.parts }
+        ensures within { result < length (topics self.now.parts) }
+        ensures named { topic_at self.now.parts result ≡ topic_of self.now.parts part }
+        ensures only { (t : ℕ) → t < length (topics self.now.parts) → topic_at self.now.parts t ≡ topic_of self.now.parts part → t ≡ result }
+    {
+        self.topics.places[part]
+    }
+
+    /// Gives the broker at a place another state.
+    pub fn set_state(&mut self, broker: usize, state: BrokerState)
+        requires { broker < length self.old.brokers }
+        ensures { self.new ≡ record self.old { brokers = with_state self.old.brokers broker state } }
+    {
+        self.brokers[broker].state = state;
+    }
+
+    /// Gives the partition at a place other loads, each below 2^32 and with no NW_OUT of followers.
+    pub fn set_loads(&mut self, part: usize, loads: Loads)
+        requires part { part < length self.old.parts }
+        requires lead { All (λ x. x < 2 ^ 32) loads.lead }
+        requires follow { All (λ x. x < 2 ^ 32) loads.follow }
+        requires silent { slice_index loads.follow 2 ≡ 0 }
+        ensures { self.new ≡ record self.old { parts = with_loads self.old.parts part loads } }
+    {
+        self.parts[part].loads = loads;
+    }
+
+    /// Excludes the topic of the partition at a place, or no longer does.
+    pub fn set_excluded(&mut self, part: usize, excluded: bool)
+        requires { part < length self.old.parts }
+        ensures { self.new ≡ record self.old { parts = with_excluded self.old.parts part excluded } }
+    {
+        self.parts[part].excluded = excluded;
+    }
+
+    /// Allows leaders alone to change, moves off lost brokers aside, or no longer does.
+    pub fn set_leads_only(&mut self, leads_only: bool)
+        ensures { self.new ≡ record self.old { options = record self.old.options { leads_only = leads_only } } }
+    {
+        self.options.leads_only = leads_only;
     }
 
     /// The same case.
@@ -136,6 +209,8 @@ impl Case {
             brokers: copy_brokers(alloc, self.brokers.as_slice())?,
             parts: copy_parts(alloc, self.parts.as_slice())?,
             options: self.options,
+            ids: self.ids.clone()?,
+            topics: self.topics.copy(alloc)?,
         })
     }
 }

@@ -1,11 +1,9 @@
 // The limits of clusters.
-ghost use Rattle.std.specs.Prelude.{◌≡◌, IfOk, length, nat_le};
+ghost use Rattle.std.specs.Prelude.{◌≡◌, length, nat_le};
 ghost use Rattle.std.specs.List.{list_any};
 ghost use Rattle.plan_terms.specs.Faults.{topics, is_heavy, is_large, has_bad_chunks, broken_limit};
 
-use indexmap::IndexSet;
-use plan_terms::{Broker, Limit, Memory, Part};
-use std::alloc::Global;
+use plan_terms::{Broker, Limit, Part};
 
 /// The greatest number of brokers, of topics and of partitions.
 pub const MAX_BROKERS: usize = 200;
@@ -13,18 +11,6 @@ pub const MAX_BROKERS: usize = 200;
 pub const MAX_TOPICS: usize = 1_000;
 
 pub const MAX_PARTS: usize = 10_000;
-
-// The number of topics.
-#[tactic(auto, using(crate::proofs::Texts::text_insert), unfolding(plan_terms::specs::Faults::topics))]
-fn count_topics<'p>(alloc: Global, parts: &'p [Part]) -> Result<usize, Memory>
-    ensures { IfOk result (λ n. n ≡ length (topics parts.now)) }
-{
-    let mut seen: IndexSet<&'p str> = IndexSet::new(alloc);
-    for part in parts {
-        let _ = seen.insert(part.topic.as_str())?;
-    }
-    Ok(seen.len())
-}
 
 // Whether some number is at least so great.
 fn any_from(numbers: &[u64], least: u64) -> bool
@@ -69,19 +55,15 @@ fn any_bad_chunks(parts: &[Part]) -> bool
     parts.iter().any(has_bad_chunks)
 }
 
-/// The first limit that is broken.
+/// The first limit that is broken by brokers and partitions, where `count` is the number of topics.
 #[tactic(auto, unfolding(plan_terms::specs::Faults::broken_limit))]
-pub fn broken_limit(
-    alloc: Global,
-    brokers: &[Broker],
-    parts: &[Part],
-) -> Result<Option<Limit>, Memory>
-    ensures { IfOk result (λ limit. limit ≡ broken_limit brokers.now parts.now) }
+pub fn broken_limit(brokers: &[Broker], parts: &[Part], count: usize) -> Option<Limit>
+    requires { count ≡ length (topics parts.now) }
+    ensures { result ≡ broken_limit brokers.now parts.now }
 {
-    let topics = count_topics(alloc, parts)?;
-    let limit = if brokers.len() > MAX_BROKERS {
+    if brokers.len() > MAX_BROKERS {
         Some(Limit::Brokers)
-    } else if topics > MAX_TOPICS {
+    } else if count > MAX_TOPICS {
         Some(Limit::Topics)
     } else if parts.len() > MAX_PARTS {
         Some(Limit::Partitions)
@@ -93,6 +75,5 @@ pub fn broken_limit(
         Some(Limit::Chunks)
     } else {
         None
-    };
-    Ok(limit)
+    }
 }

@@ -1,50 +1,37 @@
 // The first member that repeats an earlier one.
-ghost use Rattle.std.specs.Prelude.{◌≡◌};
-ghost use Rattle.std.specs.List.{list_any};
-ghost use Rattle.plan_terms.specs.Faults.{broker_repeat, part_repeat, same_id, same_part};
+ghost use Rattle.std.specs.Prelude.{◌≡◌, ◌≢◌, None, Some, IfOk, OnOk, IfErr, map};
+ghost use Rattle.plan_terms.specs.Faults.{broker_repeat, part_repeat};
 
-use plan_terms::{Broker, CaseFault, Part};
+use indexmap::IndexSet;
+use plan_terms::{Broker, CaseFault, Memory, Part};
+use std::alloc::Global;
 
-fn has_id(brokers: &[Broker], broker: &Broker) -> bool
-    ensures { result ≡ list_any (same_id broker.now) brokers.now }
-{
-    brokers.iter().any(|other| broker.id == other.id)
-}
-
-/// The first broker whose id an earlier one has.
+/// The ids of the brokers in order, or the first broker whose id an earlier one has.
 #[tactic(auto, unfolding(plan_terms::specs::Faults::broker_repeat))]
-pub fn broker_repeat(brokers: &[Broker]) -> Option<CaseFault>
-    ensures { result ≡ broker_repeat brokers.now }
+pub fn broker_ids(alloc: Global, brokers: &[Broker]) -> Result<IndexSet<u32>, CaseFault>
+    ensures ids { IfOk result (λ ids. ids.keys ≡ map (λ b. b.id) brokers.now) }
+    ensures once { OnOk result (broker_repeat brokers.now ≡ None) }
+    ensures fault { IfErr result (λ e. e ≢ CaseFault.Memory → broker_repeat brokers.now ≡ Some e) }
 {
-    for (i, broker) in brokers.iter().enumerate() {
-        if has_id(&brokers[..i], broker) {
-            return Some(CaseFault::DuplicateBroker(broker.id));
+    let mut ids = IndexSet::new(alloc);
+    for broker in brokers {
+        if !ids.insert(broker.id)? {
+            return Err(CaseFault::DuplicateBroker(broker.id));
         }
     }
-    None
-}
-
-fn is_same_part(part: &Part, other: &Part) -> bool
-    ensures { result ≡ same_part part.now other.now }
-{
-    part.number == other.number && part.topic.as_str() == other.topic.as_str()
-}
-
-fn has_part(parts: &[Part], part: &Part) -> bool
-    ensures { result ≡ list_any (same_part part.now) parts.now }
-{
-    parts.iter().any(|other| is_same_part(part, other))
+    Ok(ids)
 }
 
 /// The first partition whose topic and number an earlier one has.
 #[tactic(auto, unfolding(plan_terms::specs::Faults::part_repeat))]
-pub fn part_repeat(parts: &[Part]) -> Option<CaseFault>
-    ensures { result ≡ part_repeat parts.now }
+pub fn part_repeat<'p>(alloc: Global, parts: &'p [Part]) -> Result<Option<CaseFault>, Memory>
+    ensures { IfOk result (λ fault. fault ≡ part_repeat parts.now) }
 {
+    let mut seen: IndexSet<(u32, &'p str)> = IndexSet::new(alloc);
     for (i, part) in parts.iter().enumerate() {
-        if has_part(&parts[..i], part) {
-            return Some(CaseFault::DuplicatePartition(i));
+        if !seen.insert((part.number, part.topic.as_str()))? {
+            return Ok(Some(CaseFault::DuplicatePartition(i)));
         }
     }
-    None
+    Ok(None)
 }

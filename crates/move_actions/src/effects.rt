@@ -1,7 +1,7 @@
 // What an action does to a book.
 ghost use Rattle.std.specs.Prelude.{◌≡◌, ℕ, ◌<◌, length, slice_set, get_or, IsTrue, false};
 ghost use Rattle.plan_terms.specs.Belongs.{Belongs};
-ghost use Rattle.plan_terms.specs.Cluster.{Lists, list_of, has, leads, is_known};
+ghost use Rattle.plan_terms.specs.Cluster.{Cluster, Lists, list_of, has, leads, is_known};
 ghost use Rattle.plan_terms.specs.Effect.{replace, exchange_first, after};
 ghost use Rattle.plan_terms.specs.Fits.{fits, targets_known};
 
@@ -13,12 +13,16 @@ pub trait Moves {
     /// The lists as they stand.
     ghost lists: { Self → Lists };
 
+    /// The cluster whose loads they put on brokers.
+    ghost cluster: { Self → Cluster };
+
     /// Makes the change of an action.
     fn apply(&mut self, case: &Case, action: Action)
         requires belongs { Belongs case.now (lists self.old) }
         requires applies { IsTrue (fits (lists self.old) action) }
         requires known { IsTrue (targets_known case.now action) }
-        ensures { lists self.new ≡ after action (lists self.old) };
+        ensures lists { lists self.new ≡ after action (lists self.old) }
+        ensures cluster { cluster self.new ≡ cluster self.old };
 
     /// The action that takes the lists after the action back to these.
     fn inverse(&self, action: Action) -> Action
@@ -44,10 +48,10 @@ pub fn place_of(list: &[u32], broker: u32) -> usize
 
 // Puts one broker into another's place.
 fn put_for(book: &mut LoadBook, case: &Case, part: u32, from: u32, to: u32)
-    requires member { IsTrue (has (list_of book.old part) from) }
-    requires new { has (list_of book.old part) to ≡ false }
+    requires member { IsTrue (has (list_of book.old.lists part) from) }
+    requires new { has (list_of book.old.lists part) to ≡ false }
     requires known { IsTrue (is_known case.now to) }
-    ensures { book.new ≡ slice_set book.old part (replace from to (list_of book.old part)) }
+    ensures { book.new ≡ record book.old { lists = slice_set book.old.lists part (replace from to (list_of book.old.lists part)) } }
 {
     let place = place_of(book.list(part as usize), from);
     book.put(case, part as usize, place, to);
@@ -55,16 +59,18 @@ fn put_for(book: &mut LoadBook, case: &Case, part: u32, from: u32, to: u32)
 
 // Makes a member the leader.
 fn put_first(book: &mut LoadBook, case: &Case, part: u32, to: u32)
-    requires member { IsTrue (has (list_of book.old part) to) }
-    requires later { leads (list_of book.old part) to ≡ false }
-    ensures { book.new ≡ slice_set book.old part (exchange_first to (list_of book.old part)) }
+    requires member { IsTrue (has (list_of book.old.lists part) to) }
+    requires later { leads (list_of book.old.lists part) to ≡ false }
+    ensures { book.new ≡ record book.old { lists = slice_set book.old.lists part (exchange_first to (list_of book.old.lists part)) } }
 {
     let place = place_of(book.list(part as usize), to);
     book.exchange(case, part as usize, place);
 }
 
 impl Moves for LoadBook {
-    ghost lists = { λ b. b };
+    ghost lists = { λ b. b.lists };
+
+    ghost cluster = { λ b. b.cluster };
 
     fn apply(&mut self, case: &Case, action: Action) {
         match action {

@@ -154,7 +154,7 @@ pub fn is_legal_on(case: &Case, lists: &[Replicas], action: Action) -> bool
 /// is lost or demoted. A swap goes from a partition to a later one, exchanges two live brokers that are each a member
 /// of the one list alone, and needs that neither topic is excluded, more than leaders may change and no broker is new.
 pub fn legal(case: &Case, book: &LoadBook, action: Action) -> bool
-    ensures { result ≡ is_legal case.now book.now action }
+    ensures { result ≡ is_legal case.now book.now.lists action }
 {
     is_legal_on(case, book.lists().lists(), action)
 }

@@ -1,5 +1,6 @@
-use Rattle.std.proofs.Common.{ℕ, ◌≤◌, sym, ◌∙◌, arith, ◌≡◌}
+use Rattle.std.proofs.Common.{ℕ, ◌≤◌, sym, ◌∙◌, arith, ◌≡◌, ap, refl}
 use Rattle.std.proofs.lemmas.Bool.{false≢true}
+use Rattle.plan_terms.specs.Belongs.{Book}
 use Rattle.plan_terms.proofs.Runs.{Turns-nil, after_turns-push}
 use Rattle.cc_program.proofs.PlanSteps.{planned_more, failed_here}
 use Rattle.cc_program.proofs.plan.plan_turns.Goals as goal
@@ -8,8 +9,8 @@ use Rattle.cc_program.proofs.plan.plan_turns.Goals.{else-is_hard-via-then-is_har
 pub loop-place-init : goal.loop-place-init
 loop-place-init g c = record {
   turns_are = rw c.new-turns.ensures (Turns-nil _ _ _);
-  book_is = rw c.new-turns.ensures c.in_ok-book.ensures;
-  belongs = rw c.in_ok-book.ensures c.requires.belongs;
+  book_is = rw c.new-turns.ensures (ap (λ (b : Book). b.lists) c.in_ok-book.ensures);
+  belongs = rw c.in_ok-book.ensures (record { cluster_is = refl; lists_belong = c.requires.belongs });
 }
 
 pub returns-then-left-gt0-clause-trace : goal.returns-then-left-gt0-clause-trace

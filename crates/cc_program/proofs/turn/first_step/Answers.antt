@@ -9,14 +9,14 @@ use Rattle.cc_program.proofs.turn.first_step.Goals as goal
 use Rattle.cc_program.proofs.turn.first_step.Goals.{else-all_accept-via-then-all_accept+else-lessens, else-all_accept-via-else-all_accept}
 
 pub all_accept-requires-clause-applies : goal.all_accept-requires-clause-applies
-all_accept-requires-clause-applies g c = fits-legal c.args.case.now c.args.book.now _ (c.requires.legal c.loop-action.action-index (Move 0 0 0) c.loop-action-test.true)
+all_accept-requires-clause-applies g c = fits-legal c.args.case.now c.args.book.now.lists _ (c.requires.legal c.loop-action.action-index (Move 0 0 0) c.loop-action-test.true)
 
 pub lessens-requires-clause-applies : goal.lessens-requires-clause-applies
-lessens-requires-clause-applies g c = fits-legal c.args.case.now c.args.book.now _ (c.requires.legal c.loop-action.action-index (Move 0 0 0) c.loop-action-test.true)
+lessens-requires-clause-applies g c = fits-legal c.args.case.now c.args.book.now.lists _ (c.requires.legal c.loop-action.action-index (Move 0 0 0) c.loop-action-test.true)
 
 pub loop-action-preserved : goal.loop-action-preserved
 loop-action-preserved g c =
-    All-more (IsUnhelpful (map (λ x. g.G.Goal.meaning x c.args.case.now) c.args.earlier.now) (g.G.Goal.meaning c.args.goal.now c.args.case.now) c.args.book.now)
+    All-more (IsUnhelpful (map (λ x. g.G.Goal.meaning x c.args.case.now) c.args.earlier.now) (g.G.Goal.meaning c.args.goal.now c.args.case.now) c.args.book.now.lists)
     c.args.actions.now c.loop-action.action-index (Move 0 0 0) c.loop-action-test.true c.loop-action.invariant
     (record {
       fails = λ accepted lessens. elim c.else-all_accept.branch [
@@ -29,7 +29,7 @@ pub returns : goal.returns
 returns g c = rw (take_all c.loop-action.action-index c.args.actions.now c.loop-action-test.false) at c.loop-action.invariant
 
 pub all_accept-requires-clause-known : goal.all_accept-requires-clause-known
-all_accept-requires-clause-known g c = targets_known-legal c.args.case.now c.args.book.now _ (c.requires.legal c.loop-action.action-index (Move 0 0 0) c.loop-action-test.true)
+all_accept-requires-clause-known g c = targets_known-legal c.args.case.now c.args.book.now.lists _ (c.requires.legal c.loop-action.action-index (Move 0 0 0) c.loop-action-test.true)
 
 pub lessens-requires-clause-known : goal.lessens-requires-clause-known
-lessens-requires-clause-known g c = targets_known-legal c.args.case.now c.args.book.now _ (c.requires.legal c.loop-action.action-index (Move 0 0 0) c.loop-action-test.true)
+lessens-requires-clause-known g c = targets_known-legal c.args.case.now c.args.book.now.lists _ (c.requires.legal c.loop-action.action-index (Move 0 0 0) c.loop-action-test.true)

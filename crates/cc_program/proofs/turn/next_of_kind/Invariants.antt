@@ -5,4 +5,4 @@ use Rattle.cc_program.specs.Kinds.{legal_below}
 use Rattle.cc_program.proofs.turn.next_of_kind.Given as goal
 
 abbrev pub invariant-loop-part : goal.invariant-loop-part
-invariant-loop-part g l = All (IsUnhelpful (map (λ x. g.G.Goal.meaning x l.case) l.earlier) (g.G.Goal.meaning l.goal l.case) l.book) (legal_below l.kind l.case l.book (length l.book) l.part)
+invariant-loop-part g l = All (IsUnhelpful (map (λ x. g.G.Goal.meaning x l.case) l.earlier) (g.G.Goal.meaning l.goal l.case) l.book.lists) (legal_below l.kind l.case l.book.lists (length l.book.lists) l.part)

@@ -1,3 +1,4 @@
+use Rattle.std.proofs.Common.{◌∙◌}
 use Rattle.plan_terms.proofs.EffectLemmas.{fits-legal, targets_known-legal, Belongs-legal}
 use Rattle.plan_terms.proofs.Runs.{Steps-nil, Steps-push, after_all-push}
 use Rattle.cc_program.proofs.turn.take_turn.Goals as goal
@@ -18,6 +19,9 @@ apply-requires-clause-known g c = let step = rw c.in-Some.is at c.in_ok-next.ens
 pub scan-preserved : goal.scan-preserved
 scan-preserved g c = let step = rw c.in-Some.is at c.in_ok-next.ensures in record {
   steps = rw c.in_ok-push-in-Some.ensures.ok (Steps-push _ _ _ _ _ _ c.scan.invariant.steps (rw c.scan.invariant.book_is at step));
-  book_is = rw (c.in_ok-push-in-Some.ensures.ok, after_all-push, ← c.scan.invariant.book_is) c.apply.ensures;
-  belongs = rw c.apply.ensures (Belongs-legal _ _ _ c.scan.invariant.belongs step.legal);
+  book_is = rw (c.in_ok-push-in-Some.ensures.ok, after_all-push, ← c.scan.invariant.book_is) c.apply.ensures.lists;
+  belongs = record {
+    cluster_is = c.apply.ensures.cluster ∙ c.scan.invariant.belongs.cluster_is;
+    lists_belong = rw c.apply.ensures.lists (Belongs-legal _ _ _ c.scan.invariant.belongs.lists_belong step.legal);
+  };
 }

@@ -7,6 +7,6 @@ pub overflow_add-total : goal.overflow_add-total
 unfolding measure
 overflow_add-total g c =
     let meaning = g.G.Goal.meaning c.args.goal.now c.args.case.now in
-    let whole = g.met.G.Goal.small c.args.goal.now c.args.case.now c.args.book.now c.requires.made c.parts-parts.ensures.few c.requires.belongs in
-    let part = sum_below-le (meaning.excess c.args.book.now) (suc c.loop-unit.unit) meaning.units (omega (arith, c.units-end.ensures)) in
+    let whole = g.met.G.Goal.small c.args.goal.now c.args.case.now c.args.book.now.lists c.requires.made c.parts-parts.ensures.few c.requires.belongs.lists_belong in
+    let part = sum_below-le (meaning.excess c.args.book.now.lists) (suc c.loop-unit.unit) meaning.units (omega (arith, c.units-end.ensures)) in
     omega (arith, whole, part, c.excess-total.ensures, c.loop-unit.invariant)

@@ -1,0 +1,118 @@
+// What brokers carry, added up over the lists.
+ghost use Rattle.std.specs.Prelude.{◌≡◌, ◌<◌, ◌≤◌, ◌^◌, ◌==◌, length, true, if◌then◌else◌};
+ghost use Rattle.std.specs.List.{count_by};
+ghost use Rattle.plan_terms.specs.Load.{list_load};
+ghost use Rattle.load_model.specs.Amounts.{InRange, amount, counts_places, lead_at, follow_at};
+
+use crate::{Assign, Case};
+
+/// What is added up over a broker's places.
+#[derive(Clone, Copy)]
+pub enum Amount {
+    /// The load of a resource: the leader's at first places, the follower's at others.
+    Load(usize),
+    /// One for each place.
+    Replicas,
+    /// One for each first place.
+    Leaders,
+    /// The leader's NW_OUT at every place.
+    PotentialOut,
+    /// The leader's NW_IN at first places.
+    LeaderIn,
+    /// One for each place in a topic, by the topic's place.
+    OfTopic(usize),
+}
+
+/// What the first place of a partition's list carries, and what each other place.
+#[derive(Clone, Copy)]
+pub struct Weights {
+    pub lead: u64,
+    pub follow: u64,
+}
+
+fn one_if(test: bool) -> u64
+    ensures { result ≡ (if test then 1 else 0) }
+{
+    if test { 1 } else { 0 }
+}
+
+fn evenly(weight: u64) -> Weights
+    ensures { result ≡ record { lead = weight; follow = weight } }
+{
+    Weights {
+        lead: weight,
+        follow: weight,
+    }
+}
+
+fn at_first(weight: u64) -> Weights
+    ensures { result ≡ record { lead = weight; follow = 0 } }
+{
+    Weights {
+        lead: weight,
+        follow: 0,
+    }
+}
+
+/// What the places of a partition's list carry.
+pub fn weights_at(case: &Case, kind: Amount, part: usize) -> Weights
+    requires range { InRange kind case.now.parts }
+    requires part { part < length case.now.parts }
+    ensures lead { result.lead ≡ lead_at kind case.now.parts part }
+    ensures follow { result.follow ≡ follow_at kind case.now.parts part }
+    ensures small_lead { result.lead < 2 ^ 32 }
+    ensures small_follow { result.follow < 2 ^ 32 }
+{
+    let loads = case.parts()[part].loads;
+    match kind {
+        Amount::Load(res) => Weights {
+            lead: loads.lead[res],
+            follow: loads.follow[res],
+        },
+        Amount::Replicas => evenly(1),
+        Amount::Leaders => at_first(1),
+        Amount::PotentialOut => evenly(loads.lead[2]),
+        Amount::LeaderIn => at_first(loads.lead[1]),
+        Amount::OfTopic(topic) => evenly(one_if(case.topic(part) == topic)),
+    }
+}
+
+fn count_of(list: &[u32], broker: u32) -> usize
+    ensures value { result ≡ count_by (λ x. x == broker) list.now }
+    ensures within { result ≤ length list.now }
+{
+    list.iter().filter(|x| **x == broker).count()
+}
+
+// What one list puts on a broker.
+fn list_amount(weights: Weights, list: &[u32], broker: u32) -> u64
+    requires lead { weights.lead < 2 ^ 32 }
+    requires follow { weights.follow < 2 ^ 32 }
+    requires short { length list.now ≤ 8 }
+    ensures { result ≡ list_load weights.lead weights.follow broker list.now }
+{
+    match list {
+        [] => 0,
+        [first, rest @ ..] => {
+            let lead = if *first == broker { weights.lead } else { 0 };
+            lead + weights.follow * count_of(rest, broker) as u64
+        }
+    }
+}
+
+/// What the broker of an id carries in all.
+pub fn amount_of(case: &Case, lists: &Assign, kind: Amount, broker: u32) -> u64
+    requires one_each { length lists.now ≡ length case.now.parts }
+    requires range { InRange kind case.now.parts }
+    ensures value { result ≡ amount kind case.now.parts broker lists.now }
+    ensures small { result < 2 ^ 49 }
+    ensures few { counts_places kind ≡ true → result ≤ 80000 }
+{
+    let parts = case.parts();
+    let _assignment = lists.lists();
+    let mut total = 0u64;
+    for part in 0..parts.len() {
+        total += list_amount(weights_at(case, kind, part), lists.list(part), broker);
+    }
+    total
+}
