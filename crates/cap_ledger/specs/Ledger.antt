@@ -48,8 +48,8 @@ unfoldable pub fits_in : Ledger → Caps → List ℕ → List ℕ → Bool
 fits_in l caps before after =
     if differ before after
     then list_all (λ b. nat_lt (adding_of l b) caps.broker) (added before after)
-        && list_all (λ b. nat_lt (removing_of l b) caps.broker) (added after before)
-        && nat_lt l.replica caps.cluster
+    && list_all (λ b. nat_lt (removing_of l b) caps.broker) (added after before)
+    && nat_lt l.replica caps.cluster
     else nat_lt l.leader caps.leader
 
 -- all brokers of the list are known, and none stands twice

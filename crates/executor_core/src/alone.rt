@@ -1,15 +1,18 @@
 // One worker alone, whom nobody stops.
-ghost use Rattle.std.specs.Prelude.{◌≡◌, None, IfOk, OnOk, map};
-ghost use Rattle.std.specs.List.{All};
+ghost use Rattle.std.specs.Prelude.{◌≡◌, ◌≤◌, None, IfOk, OnOk, false, map};
+ghost use Rattle.std.specs.List.{All, filter, list_any};
 ghost use Rattle.plan_terms.specs.Belongs.{Belongs};
 ghost use Rattle.plan_terms.specs.Change.{proposals};
+ghost use Rattle.plan_terms.specs.Legal.{is_lost};
+ghost use Rattle.plan_terms.specs.States.{is_dead};
 ghost use Rattle.exec_terms.specs.Machine.{first_unfinished, lists_now, after_launch};
 ghost use Rattle.exec_terms.specs.Runs.{CanLaunch};
 ghost use Rattle.executor_core.specs.Alone.{proposal_of, IsBetweenRounds, IsOut, after_report};
 
 use crate::Exec;
+use cap_ledger::Caps;
 use exec_terms::{Given, LaunchFault, Phase, Work};
-use load_model::{Assign, Case, Part};
+use load_model::{Assign, Broker, Case, Part};
 use plan_terms::{Memory, Proposal};
 use proposal_set::proposals;
 use std::alloc::Global;
@@ -23,6 +26,30 @@ fn chunk_counts(alloc: Global, parts: &[Part]) -> Result<Vec<u32>, Memory>
         counts.push(part.chunks)?;
     }
     Ok(counts)
+}
+
+// The ids of the brokers.
+fn broker_ids(alloc: Global, brokers: &[Broker]) -> Result<Vec<u32>, Memory>
+    ensures { IfOk result (λ ids. ids.items ≡ map (λ b. b.id) brokers.now) }
+{
+    let mut ids = Vec::new(alloc);
+    for broker in brokers {
+        ids.push(broker.id)?;
+    }
+    Ok(ids)
+}
+
+// The ids of the brokers that are lost.
+fn dead_ids(alloc: Global, brokers: &[Broker]) -> Result<Vec<u32>, Memory>
+    ensures { IfOk result (λ ids. ids.items ≡ map (λ b. b.id) (filter (λ b. is_dead b.state) brokers.now)) }
+{
+    let mut ids = Vec::new(alloc);
+    for broker in brokers {
+        if broker.state.is_dead() {
+            ids.push(broker.id)?;
+        }
+    }
+    Ok(ids)
 }
 
 // Launches the proposals, where no task is unfinished.
@@ -39,13 +66,25 @@ fn start(exec: &mut Exec, alloc: Global, proposals: &[Proposal]) -> Result<(), M
 }
 
 /// A new executor of the one assignment that has launched what leads to the other.
-pub fn launched(alloc: Global, case: &Case, before: &Assign, after: &Assign) -> Result<Exec, Memory>
+pub fn launched(
+    alloc: Global,
+    case: &Case,
+    caps: Caps,
+    before: &Assign,
+    after: &Assign,
+) -> Result<Exec, Memory>
+    requires broker_cap { 1 ≤ caps.broker }
+    requires cluster_cap { 1 ≤ caps.cluster }
+    requires leader_cap { 1 ≤ caps.leader }
     requires before { Belongs case.now before.now }
     requires after { Belongs case.now after.now }
+    requires no_lost { All (λ list. list_any (is_lost case.now) list ≡ false) after.now }
     ensures { IfOk result (IsBetweenRounds before.now (proposals before.now after.now)) }
 {
     let chunks = chunk_counts(alloc, case.parts())?;
-    let mut exec = Exec::new(alloc, before, &chunks)?;
+    let brokers = broker_ids(alloc, case.brokers())?;
+    let dead = dead_ids(alloc, case.brokers())?;
+    let mut exec = Exec::new(alloc, before, &chunks, caps, &brokers, &dead)?;
     let changes = proposals(alloc, before, after)?;
     start(&mut exec, alloc, &changes)?;
     Ok(exec)
@@ -82,23 +121,28 @@ fn drain(exec: &mut Exec)
     }
 }
 
-/// Carries out, on one thread, what takes the case's partitions from the one assignment to the other: launches the
+/// Carries out within the caps, on one thread, what takes the case's partitions from the one assignment to the other: launches the
 /// proposals, then takes work and reports it done until nothing is left.
 pub fn carry_out(
     alloc: Global,
     case: &Case,
+    caps: Caps,
     before: &Assign,
     after: &Assign,
 ) -> Result<Exec, Memory>
+    requires broker_cap { 1 ≤ caps.broker }
+    requires cluster_cap { 1 ≤ caps.cluster }
+    requires leader_cap { 1 ≤ caps.leader }
     requires before { Belongs case.now before.now }
     requires after { Belongs case.now after.now }
+    requires no_lost { All (λ list. list_any (is_lost case.now) list ≡ false) after.now }
     ensures drained { IfOk result (λ exec. first_unfinished exec ≡ None) }
     ensures lists { IfOk result (λ exec. lists_now exec ≡ after.now) }
     ensures base { IfOk result (λ exec. exec.base ≡ before.now) }
     ensures tasks { IfOk result (λ exec. map proposal_of exec.tasks ≡ proposals before.now after.now) }
     ensures completed { IfOk result (λ exec. All (λ t. t.phase ≡ Phase.Completed) exec.tasks) }
 {
-    let mut exec = launched(alloc, case, before, after)?;
+    let mut exec = launched(alloc, case, caps, before, after)?;
     drain(&mut exec);
     Ok(exec)
 }
