@@ -15,7 +15,7 @@ use Rattle.exec_terms.specs.Runs.{CanLaunch}
 use Rattle.executor_core.specs.Launch.{have_distinct_parts, is_replica_list, needs_between, needs_no_dead, fits_launch, may_launch}
 
 -- what a test says of all elements
-all_pass : {X : Type 0} (p : X → Bool) (xs : List X) → list_all p xs ≡ true → All (λ x. p x ≡ true) xs
+pub all_pass : {X : Type 0} (p : X → Bool) (xs : List X) → list_all p xs ≡ true → All (λ x. p x ≡ true) xs
 all_pass p [] h = λ k d l. absurd (omega (arith, l))
 all_pass {X} p (x ∷ xs) h = λ k d l. place k d l (λ j m. all_pass p xs (and_parts (p x) (list_all p xs) h).1 j d m) where
   place : (k : ℕ) (d : X) → k < length (x ∷ xs) → ((j : ℕ) → j < length xs → p (get_or xs j d) ≡ true) → p (get_or (x ∷ xs) k d) ≡ true

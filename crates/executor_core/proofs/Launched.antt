@@ -18,7 +18,7 @@ use Rattle.plan_terms.proofs.FaultLemmas.{WithinLimits-faultless, few_parts}
 use Rattle.exec_terms.specs.Words.{adds, is_replica_task, needs, copies_left}
 use Rattle.exec_terms.specs.Machine.{State, task_of, list_now, lists_now, after_launch}
 use Rattle.exec_terms.specs.Valid.{IsValid, work_in, work_of_task, work_left}
-use Rattle.exec_terms.specs.Runs.{CanLaunch, new_state, hosts_of}
+use Rattle.exec_terms.specs.Runs.{CanLaunch, hosts_of}
 use Rattle.exec_terms.specs.Stops.{is_host}
 use Rattle.exec_terms.specs.declared.brokers.Caps.{Caps}
 use Rattle.exec_terms.specs.declared.phase.Phase.{Phase}
@@ -32,7 +32,7 @@ use Rattle.exec_terms.proofs.WorkLeft.{two_most}
 use Rattle.executor_core.proofs.Beside.{is_host-has}
 use Rattle.executor_core.proofs.Brokers.{ids, lost_ids, ids_once, not_among, leads-has, members_known}
 use Rattle.executor_core.proofs.Launching.{proposals_again, ids_of_hosts}
-use Rattle.executor_core.specs.Alone.{IsAtRest, IsBetweenRounds}
+use Rattle.executor_core.specs.Alone.{opening, IsAtRest, IsBetweenRounds}
 use Rattle.executor_core.proofs.Changes.{proposals_all, few_proposals, one_each}
 
 -- the chunk counts of a case are within the limit
@@ -59,13 +59,16 @@ few_works s v =
     omega (arith, sum_by-le work_of_task 8005 s.tasks each, v.few_tasks)
 
 -- what leads from one assignment of a case to another, where no list of the other has a lost member
-module _ (c : Cluster) (before after : Lists) (chunks : List ℕ) (caps : Caps) (case : IsCase c) (belongs : Belongs c before) (belongs' : Belongs c after)
+module _ (c : Cluster) (before after : Lists) (caps : Caps) (case : IsCase c) (belongs : Belongs c before) (belongs' : Belongs c after)
     (no_lost : All (λ list. list_any (is_lost c) list ≡ false) after) where
+  abbrev chunks : List ℕ
+  chunks = map (λ (p : Part). p.chunks) c.parts
+
   abbrev hosts : List Host
   hosts = hosts_of (ids c.brokers) (lost_ids c.brokers)
 
   abbrev new : State
-  new = new_state before chunks caps hosts
+  new = opening c before caps
 
   same : length before ≡ length after
   same = belongs.one_each ∙ sym belongs'.one_each
@@ -109,10 +112,10 @@ module _ (c : Cluster) (before after : Lists) (chunks : List ℕ) (caps : Caps) 
     alive = proposals_all before after (λ q. All (λ (h : Host). h.dead ≡ true → needs (task_of chunks q) h.id ≡ false) hosts) none_needed;
   }
 
-  pub rounds_begin : All (λ n. n ≤ 1000) chunks → 1 ≤ caps.broker → 1 ≤ caps.cluster → 1 ≤ caps.leader → IsBetweenRounds before (proposals before after) (after_launch new (proposals before after))
-  rounds_begin short b m l =
+  pub rounds_begin : 1 ≤ caps.broker → 1 ≤ caps.cluster → 1 ≤ caps.leader → IsBetweenRounds before (proposals before after) (after_launch new (proposals before after))
+  rounds_begin b m l =
       let s : State = new in
-      let valid = IsValid-launch s (proposals before after) can_launch (IsValid-new before chunks caps hosts short b m l) in
+      let valid = IsValid-launch s (proposals before after) can_launch (IsValid-new before chunks caps hosts (few_chunks c case) b m l) in
       record {
         valid = valid;
         base_is = ext_get_or [] (lists_now s) before (length-each_below (list_now s) (length before)) (λ k l.
@@ -124,7 +127,7 @@ module _ (c : Cluster) (before after : Lists) (chunks : List ℕ) (caps : Caps) 
       }
 
   -- the same, for the executor's states by what is known of them
-  pub begun : (s s' : State) (ps : List Proposal) → All (λ n. n ≤ 1000) chunks → 1 ≤ caps.broker → 1 ≤ caps.cluster → 1 ≤ caps.leader
+  pub begun : (s s' : State) (ps : List Proposal) → 1 ≤ caps.broker → 1 ≤ caps.cluster → 1 ≤ caps.leader
       → s ≡ new → ps ≡ proposals before after → s' ≡ after_launch s ps
       → IsBetweenRounds before (proposals before after) s'
-  begun s s' ps short b m l is all launched = rw (launched, is, all) (rounds_begin short b m l)
+  begun s s' ps b m l is all launched = rw (launched, is, all) (rounds_begin b m l)

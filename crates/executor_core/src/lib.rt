@@ -6,6 +6,8 @@ mod alone;
 mod change;
 mod exec;
 mod scan;
+#[cfg(test)]
+mod tests;
 
-pub use alone::carry_out;
+pub use alone::{avoids_lost, carry_out, opened};
 pub use exec::Exec;
