@@ -43,7 +43,7 @@ count_by-map_is p f (y ∷ ys) =
       count_by-map_is p f ys,
     )
 
-all_pending : (p : Task → Bool) (chunks : List ℕ) (proposals : List Proposal) → ((q : Proposal) → p (task_of chunks q) ≡ false) → count_by p (map (task_of chunks) proposals) ≡ 0
+pub all_pending : (p : Task → Bool) (chunks : List ℕ) (proposals : List Proposal) → ((q : Proposal) → p (task_of chunks q) ≡ false) → count_by p (map (task_of chunks) proposals) ≡ 0
 all_pending p chunks proposals h = count_by_none p (map (task_of chunks) proposals) (All-map (λ t. p t ≡ false) (task_of chunks) proposals (λ k d l. h (get_or proposals k d)))
 
 pub IsValid-launch : (s : State) (proposals : List Proposal) → CanLaunch s proposals → IsValid s → IsValid (after_launch s proposals)

@@ -28,3 +28,11 @@ map_step_at {X} f xs cur i d y l e is =
     put ∙ ap (λ (z : X). front ++ z ∷ drop (i + 1) xs) new
     ∙ sym (append_assoc front (f (get_or xs i d) ∷ []) (drop (i + 1) xs))
     ∙ ap (λ (ys : List X). ys ++ drop (i + 1) xs) (sym (map_more f xs i d l))
+
+-- what the loop has not come to is as it was
+pub map_old : {X : Type 0} (f : X → X) (xs cur : List X) (i : ℕ) (d : X) → i < length xs → cur ≡ map f (take i xs) ++ drop i xs → get_or cur i d ≡ get_or xs i d
+map_old {X} f xs cur i d l e =
+    let front : List X = map f (take i xs) in
+    let len : length front ≡ i = length-map (take i xs) f ∙ length-take-le i xs (omega arith) in
+    let parts : cur ≡ front ++ get_or xs i d ∷ drop (i + 1) xs = e ∙ ap (λ (ys : List X). front ++ ys) (drop_more xs i d l) in
+    ap (λ (ys : List X). get_or ys i d) parts ∙ get_or_at front (get_or xs i d) (drop (i + 1) xs) d i len

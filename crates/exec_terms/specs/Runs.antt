@@ -1,12 +1,12 @@
 -- Lists of events, and what holds of the executor after each.
-use Rattle.std.specs.Prelude.{◌≡◌, ℕ, ◌<◌, ◌≤◌, Bool, true, false, ◌==◌, IsOk, Result, Ok, Err, Option, Some, List, [], ◌∷◌, length}
-use Rattle.std.specs.List.{All, count_by}
+use Rattle.std.specs.Prelude.{◌≡◌, ℕ, ◌<◌, ◌≤◌, Bool, true, false, ◌==◌, IsOk, Result, Ok, Err, Option, Some, List, [], ◌∷◌, length, map}
+use Rattle.std.specs.List.{All, list_all, count_by}
 use Rattle.plan_terms.specs.Belongs.{IsReplicaList}
-use Rattle.plan_terms.specs.Cluster.{Lists}
+use Rattle.plan_terms.specs.Cluster.{Lists, has}
 use Rattle.exec_terms.specs.Words.{is_free, needs, list_shown}
 use Rattle.exec_terms.specs.Machine.{State, task_at, list_now, task_of, any_unfinished, next_work, after_take, after_launch}
 use Rattle.exec_terms.specs.Leases.{test_lease, after_copied, after_copy_failed, after_commit, after_cancel, end_lease}
-use Rattle.exec_terms.specs.Stops.{after_stop, after_kill}
+use Rattle.exec_terms.specs.Stops.{is_host, after_stop, after_kill}
 use Rattle.exec_terms.specs.Valid.{IsValid, work_left}
 use Rattle.exec_terms.specs.declared.brokers.Caps.{Caps}
 use Rattle.exec_terms.specs.declared.brokers.Host.{Host}
@@ -30,12 +30,13 @@ pub data Event : Type 0 where
   Launched : (proposals : List Proposal) → Event
 
 -- what a launch asks: at most 10,000 proposals of partitions that differ, each with the list that its partition has now and a
--- replica list that it is to have, and no dead broker that is needed
+-- replica list of known brokers that it is to have, and no dead broker that is needed
 pub record CanLaunch (s : State) (proposals : List Proposal) : Type 0 where
   pub few : length proposals ≤ 10000
   pub known : All (λ p. p.part < length s.base) proposals
   pub before : All (λ p. p.before ≡ list_now s p.part) proposals
   pub lists : All (λ p. IsReplicaList p.after) proposals
+  pub brokers : All (λ p. list_all (is_host s.hosts) p.after ≡ true) proposals
   pub distinct : (n : ℕ) → count_by (λ p. p.part == n) proposals ≤ 1
   pub alive : All (λ p. All (λ h. h.dead ≡ true → needs (task_of s.chunks p) h.id ≡ false) s.hosts) proposals
 
@@ -76,6 +77,10 @@ CanAllHappen s (e ∷ es) = CanHappen s e × CanAllHappen (after_event s e) es
 -- caps that no execution reaches
 abbrev pub greatest_caps : Caps
 greatest_caps = record { broker = 4294967295; cluster = 4294967295; leader = 4294967295 }
+
+-- the brokers, each with whether it is among the dead ones
+abbrev pub hosts_of : List ℕ → List ℕ → List Host
+hosts_of brokers dead = map (λ b. record { id = b; dead = has dead b }) brokers
 
 -- a new executor: no task, no lease
 abbrev pub new_state : Lists → List ℕ → Caps → List Host → State

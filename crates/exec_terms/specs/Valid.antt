@@ -1,8 +1,8 @@
 -- What holds of every state of the executor, and the work that is left.
-use Rattle.std.specs.Prelude.{◌≡◌, ◌≢◌, ℕ, ◌+◌, ◌-◌, ◌<◌, ◌≤◌, Bool, true, false, IsTrue, List, length, Option, Some, None, map, sum_by}
+use Rattle.std.specs.Prelude.{◌≡◌, ◌≢◌, ℕ, ◌+◌, ◌-◌, ◌<◌, ◌≤◌, Bool, true, false, IsTrue, List, length, Option, Some, None, sum_by}
 use Rattle.std.specs.List.{All, count_by}
 use Rattle.plan_terms.specs.Cluster.{Lists, list_of}
-use Rattle.exec_terms.specs.Words.{in_flight, goes_on, may_be_doomed, copies, copies_left, next_step, is_for, holds, is_on, needs, union_of}
+use Rattle.exec_terms.specs.Words.{in_flight, goes_on, may_be_doomed, copies, copies_left, next_step, is_for, holds, is_on, needs}
 use Rattle.exec_terms.specs.Machine.{State, adding, removing, replica_tasks, leader_tasks, unfinished_replica_tasks}
 use Rattle.exec_terms.specs.declared.phase.Phase.{Phase}
 use Rattle.exec_terms.specs.declared.phase.Phase.TheVariants.{Pending, InProgress, Aborting, Aborted, Completed, Dead}
@@ -93,8 +93,3 @@ work_of_task t = work_in t.phase t
 -- the work of all tasks
 abbrev pub work_left : State → ℕ
 work_left s = sum_by work_of_task s.tasks
-
--- what the executor keeps: a valid state, and beside each task the list that its partition has while it is moved
-pub record IsKept (s : State) (unions : List (List ℕ)) : Type 0 where
-  pub valid : IsValid s
-  pub beside : unions ≡ map union_of s.tasks

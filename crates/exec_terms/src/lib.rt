@@ -17,5 +17,5 @@ pub use replies::{
     Faults, Given, Idle, KillFault, Killed, LaunchFault, LeaseFault, Left, NothingToStop, Stopped,
 };
 pub use task::Task;
-pub use words::{has, union};
+pub use words::{differs, has, leads, union};
 pub use work::{Lease, Work, WorkKind};

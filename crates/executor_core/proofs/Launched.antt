@@ -1,22 +1,26 @@
 -- A launch of the proposals between two assignments, by a new executor of the first.
-use Rattle.std.proofs.Common.{◌≡◌, ℕ, ◌<◌, ◌≤◌, true, false, List, [], ◌∷◌, map, length, get_or, arith, refl, ap}
+use Rattle.std.proofs.Common.{◌≡◌, ℕ, ◌<◌, ◌≤◌, Bool, true, false, not, ◌&&◌, List, [], ◌∷◌, map, length, get_or, arith, refl, sym, ap, ◌∙◌, zero, suc}
 use Rattle.std.specs.Prelude.{◌==◌, nat_lt}
-use Rattle.std.specs.List.{All}
-use Rattle.std.proofs.lemmas.Bool.{or_parts, ltb-false}
+use Rattle.std.specs.List.{All, list_any, list_all}
+use Rattle.std.proofs.lemmas.Bool.{or_parts, or_from, and_left, and_right, ltb-false}
 use Rattle.std.proofs.lemmas.List.{ext_get_or}
-use Rattle.std.proofs.lemmas.List.Elements.{All-nil, All-map}
+use Rattle.std.proofs.lemmas.List.Elements.{All-map}
 use Rattle.std.proofs.lemmas.List.Sums.{sum_by-le}
-use Rattle.plan_terms.specs.Belongs.{AreReplicaLists, IsReplicaList}
+use Rattle.std.proofs.Math.Path.{fun_ext}
+use Rattle.plan_terms.specs.Belongs.{Belongs, IsReplicaList, distinct}
 use Rattle.plan_terms.specs.Change.{proposal_at, proposals}
-use Rattle.plan_terms.specs.Cluster.{Cluster, Lists, list_of}
+use Rattle.plan_terms.specs.Cluster.{Cluster, Lists, list_of, has, leads}
+use Rattle.plan_terms.specs.Legal.{is_lost}
 use Rattle.plan_terms.specs.Faults.{IsCase, has_bad_chunks}
 use Rattle.plan_terms.specs.declared.cluster.Part.{Part}
 use Rattle.plan_terms.specs.declared.lists.Proposal.{Proposal}
-use Rattle.plan_terms.proofs.FaultLemmas.{WithinLimits-faultless}
-use Rattle.exec_terms.specs.Words.{needs, copies_left}
+use Rattle.plan_terms.proofs.FaultLemmas.{WithinLimits-faultless, few_parts}
+use Rattle.exec_terms.specs.Words.{adds, is_replica_task, needs, copies_left}
 use Rattle.exec_terms.specs.Machine.{State, task_of, list_now, lists_now, after_launch}
 use Rattle.exec_terms.specs.Valid.{IsValid, work_in, work_of_task, work_left}
-use Rattle.exec_terms.specs.Runs.{CanLaunch, new_state, greatest_caps}
+use Rattle.exec_terms.specs.Runs.{CanLaunch, hosts_of}
+use Rattle.exec_terms.specs.Stops.{is_host}
+use Rattle.exec_terms.specs.declared.brokers.Caps.{Caps}
 use Rattle.exec_terms.specs.declared.phase.Phase.{Phase}
 use Rattle.exec_terms.specs.declared.phase.Phase.TheVariants.{Pending, InProgress, Aborting, Aborted, Completed, Dead}
 use Rattle.exec_terms.specs.declared.brokers.Host.{Host}
@@ -25,7 +29,10 @@ use Rattle.exec_terms.proofs.Copies.{few_copies}
 use Rattle.exec_terms.proofs.Gives.{none_any}
 use Rattle.exec_terms.proofs.Launch.{length-each_below, get_or-each_below, IsValid-launch, IsValid-new}
 use Rattle.exec_terms.proofs.WorkLeft.{two_most}
-use Rattle.executor_core.specs.Alone.{proposal_of, IsAtRest, IsBetweenRounds}
+use Rattle.executor_core.proofs.Beside.{is_host-has}
+use Rattle.executor_core.proofs.Brokers.{ids, lost_ids, ids_once, not_among, leads-has, members_known}
+use Rattle.executor_core.proofs.Launching.{proposals_again, ids_of_hosts}
+use Rattle.executor_core.specs.Alone.{opening, IsAtRest, IsBetweenRounds}
 use Rattle.executor_core.proofs.Changes.{proposals_all, few_proposals, one_each}
 
 -- the chunk counts of a case are within the limit
@@ -51,25 +58,64 @@ few_works s v =
     let each : All (λ t. work_of_task t ≤ 8005) s.tasks = λ k d l. work_of_one (get_or s.tasks k d) (get_or s.tasks k d).phase (v.each k d l).short (v.each k d l).few_chunks in
     omega (arith, sum_by-le work_of_task 8005 s.tasks each, v.few_tasks)
 
-proposals_again : (chunks : List ℕ) (ps : List Proposal) → map proposal_of (map (task_of chunks) ps) ≡ ps
-proposals_again chunks [] = refl
-proposals_again chunks (p ∷ ps) = ap (λ (qs : List Proposal). p ∷ qs) (proposals_again chunks ps)
+-- what leads from one assignment of a case to another, where no list of the other has a lost member
+module _ (c : Cluster) (before after : Lists) (caps : Caps) (case : IsCase c) (belongs : Belongs c before) (belongs' : Belongs c after)
+    (no_lost : All (λ list. list_any (is_lost c) list ≡ false) after) where
+  abbrev chunks : List ℕ
+  chunks = map (λ (p : Part). p.chunks) c.parts
 
-module _ (before after : Lists) (chunks : List ℕ) (same : length before ≡ length after) (few : length before ≤ 10000) (lists : AreReplicaLists after) where
-  pub can_launch : CanLaunch (new_state before chunks greatest_caps []) (proposals before after)
+  abbrev hosts : List Host
+  hosts = hosts_of (ids c.brokers) (lost_ids c.brokers)
+
+  abbrev new : State
+  new = opening c before caps
+
+  same : length before ≡ length after
+  same = belongs.one_each ∙ sym belongs'.one_each
+
+  few : length before ≤ 10000
+  few = omega (arith, belongs.one_each, few_parts c case)
+
+  once : distinct (ids c.brokers) ≡ true
+  once = ids_once c case
+
+  ids_of : map (λ (h : Host). h.id) hosts ≡ ids c.brokers
+  ids_of = ids_of_hosts (ids c.brokers) (lost_ids c.brokers)
+
+  hosts_known : (p : ℕ) → p < length before → list_all (is_host hosts) (list_of after p) ≡ true
+  hosts_known p l =
+      ap (λ (q : ℕ → Bool). list_all q (list_of after p)) (fun_ext (λ (b : ℕ). is_host-has hosts b ∙ ap (λ (bs : List ℕ). has bs b) ids_of))
+      ∙ members_known c after belongs'.known p [] (omega (arith, same, l))
+
+  -- a dead host is among the lost brokers
+  dead_lost : (brokers dead : List ℕ) (k : ℕ) (d : Host) → k < length (hosts_of brokers dead) → (get_or (hosts_of brokers dead) k d).dead ≡ true → has dead (get_or (hosts_of brokers dead) k d).id ≡ true
+  dead_lost [] dead k d l h = absurd (omega arith)
+  dead_lost (b ∷ bs) dead zero d l h = h
+  dead_lost (b ∷ bs) dead (suc k) d l h = dead_lost bs dead k d (omega arith) h
+
+  none_needed : (p : ℕ) → p < length before → All (λ h. h.dead ≡ true → needs (task_of chunks (proposal_at before after p)) h.id ≡ false) hosts
+  none_needed p l = λ k d m e.
+      let b : ℕ = (get_or hosts k d).id in
+      let out : has (list_of after p) b ≡ false = not_among c (list_of after p) b once (no_lost p [] (omega (arith, same, l))) (dead_lost (ids c.brokers) (lost_ids c.brokers) k d m e) in
+      or_from (adds (task_of chunks (proposal_at before after p)) b) (not (is_replica_task (task_of chunks (proposal_at before after p))) && leads (list_of after p) b)
+      (and_left (has (list_of after p) b) (not (has (list_of before p) b)) out)
+      (and_right (not (is_replica_task (task_of chunks (proposal_at before after p)))) (leads (list_of after p) b) (leads-has (list_of after p) b out))
+
+  pub can_launch : CanLaunch new (proposals before after)
   can_launch = record {
-    few = omega (arith, few_proposals before after);
+    few = omega (arith, few_proposals before after, few);
     known = proposals_all before after (λ q. q.part < length before) (λ p l. l);
     before = proposals_all before after (λ q. q.before ≡ list_of before q.part) (λ p l. refl);
-    lists = proposals_all before after (λ q. IsReplicaList q.after) (λ p l. lists p [] (omega arith));
+    lists = proposals_all before after (λ q. IsReplicaList q.after) (λ p l. belongs'.lists_are p [] (omega (arith, same, l)));
+    brokers = proposals_all before after (λ q. list_all (is_host hosts) q.after ≡ true) hosts_known;
     distinct = one_each before after;
-    alive = proposals_all before after (λ q. All (λ (h : Host). h.dead ≡ true → needs (task_of chunks q) h.id ≡ false) []) (λ p l. All-nil (λ (h : Host). h.dead ≡ true → needs (task_of chunks (proposal_at before after p)) h.id ≡ false));
+    alive = proposals_all before after (λ q. All (λ (h : Host). h.dead ≡ true → needs (task_of chunks q) h.id ≡ false) hosts) none_needed;
   }
 
-  pub rounds_begin : All (λ n. n ≤ 1000) chunks → IsBetweenRounds before (proposals before after) (after_launch (new_state before chunks greatest_caps []) (proposals before after))
-  rounds_begin short =
-      let s : State = new_state before chunks greatest_caps [] in
-      let valid = IsValid-launch s (proposals before after) can_launch (IsValid-new before chunks greatest_caps [] short (omega arith) (omega arith) (omega arith)) in
+  pub rounds_begin : 1 ≤ caps.broker → 1 ≤ caps.cluster → 1 ≤ caps.leader → IsBetweenRounds before (proposals before after) (after_launch new (proposals before after))
+  rounds_begin b m l =
+      let s : State = new in
+      let valid = IsValid-launch s (proposals before after) can_launch (IsValid-new before chunks caps hosts (few_chunks c case) b m l) in
       record {
         valid = valid;
         base_is = ext_get_or [] (lists_now s) before (length-each_below (list_now s) (length before)) (λ k l.
@@ -81,6 +127,7 @@ module _ (before after : Lists) (chunks : List ℕ) (same : length before ≡ le
       }
 
   -- the same, for the executor's states by what is known of them
-  pub begun : (s s' : State) (ps : List Proposal) → All (λ n. n ≤ 1000) chunks → s ≡ new_state before chunks greatest_caps [] → ps ≡ proposals before after → s' ≡ after_launch s ps
+  pub begun : (s s' : State) (ps : List Proposal) → 1 ≤ caps.broker → 1 ≤ caps.cluster → 1 ≤ caps.leader
+      → s ≡ new → ps ≡ proposals before after → s' ≡ after_launch s ps
       → IsBetweenRounds before (proposals before after) s'
-  begun s s' ps short new all is = rw (is, new, all) (rounds_begin short)
+  begun s s' ps b m l is all launched = rw (launched, is, all) (rounds_begin b m l)

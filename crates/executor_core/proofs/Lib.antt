@@ -1,5 +1,14 @@
+pub mod Admitted
+pub mod Beside
+pub mod Brokers
+pub mod Calls
 pub mod Changes
 pub mod Drained
+pub mod Fitting
+pub mod Flying
 pub mod Kept
 pub mod Launched
+pub mod Launching
 pub mod Rounds
+pub mod Starts
+pub mod Turned

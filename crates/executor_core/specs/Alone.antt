@@ -1,12 +1,15 @@
 -- One worker alone, whom nobody stops: it takes work, does it and reports it done, round after round.
 use Rattle.std.specs.Prelude.{◌≡◌, ℕ, ◌+◌, ◌≤◌, Bool, true, false, ◌||◌, List, map, None, Ok}
-use Rattle.std.specs.List.{All}
-use Rattle.plan_terms.specs.Cluster.{Lists}
+use Rattle.std.specs.List.{All, filter}
+use Rattle.plan_terms.specs.Cluster.{Cluster, Lists}
+use Rattle.plan_terms.specs.States.{is_dead}
 use Rattle.plan_terms.specs.declared.lists.Proposal.{Proposal}
 use Rattle.exec_terms.specs.Words.{goes_on, is_for}
 use Rattle.exec_terms.specs.Machine.{State}
 use Rattle.exec_terms.specs.Leases.{test_lease, after_copied, after_commit, after_cancel}
 use Rattle.exec_terms.specs.Valid.{IsValid, work_left}
+use Rattle.exec_terms.specs.Runs.{new_state, hosts_of}
+use Rattle.exec_terms.specs.declared.brokers.Caps.{Caps}
 use Rattle.exec_terms.specs.declared.phase.Phase.{Phase}
 use Rattle.exec_terms.specs.declared.phase.Phase.TheVariants.{Pending, InProgress, Aborting, Aborted, Completed, Dead}
 use Rattle.exec_terms.specs.declared.work.WorkKind.{WorkKind}
@@ -42,6 +45,10 @@ pub record IsBetweenRounds (lists : Lists) (proposals : List Proposal) (s : Stat
   pub tasks_are : map proposal_of s.tasks ≡ proposals
   pub rest : All IsAtRest s.tasks
   pub few : s.leases + work_left s ≤ 80050000
+
+-- a new executor of a case and these lists: its lost brokers are dead
+abbrev pub opening : Cluster → Lists → Caps → State
+opening c lists caps = new_state lists (map (λ p. p.chunks) c.parts) caps (hosts_of (map (λ b. b.id) c.brokers) (map (λ b. b.id) (filter (λ b. is_dead b.state) c.brokers)))
 
 -- what a lease for the work is for
 abbrev pub kind_of : Work → WorkKind

@@ -1,16 +1,20 @@
 // One worker alone, whom nobody stops.
-ghost use Rattle.std.specs.Prelude.{◌≡◌, None, IfOk, OnOk, map};
-ghost use Rattle.std.specs.List.{All};
+ghost use Rattle.std.specs.Prelude.{◌≡◌, ◌≤◌, None, IfOk, OnOk, IsTrue, false, not, map};
+ghost use Rattle.std.specs.List.{All, filter, list_all, list_any};
 ghost use Rattle.plan_terms.specs.Belongs.{Belongs};
 ghost use Rattle.plan_terms.specs.Change.{proposals};
+ghost use Rattle.plan_terms.specs.Faults.{IsCase};
+ghost use Rattle.plan_terms.specs.Legal.{is_lost};
+ghost use Rattle.plan_terms.specs.States.{is_dead};
 ghost use Rattle.exec_terms.specs.Machine.{first_unfinished, lists_now, after_launch};
 ghost use Rattle.exec_terms.specs.Runs.{CanLaunch};
-ghost use Rattle.executor_core.specs.Alone.{proposal_of, IsBetweenRounds, IsOut, after_report};
+ghost use Rattle.executor_core.specs.Alone.{opening, proposal_of, IsBetweenRounds, IsOut, after_report};
 
 use crate::Exec;
+use cap_ledger::Caps;
 use exec_terms::{Given, LaunchFault, Phase, Work};
-use load_model::{Assign, Case, Part};
-use plan_terms::{Memory, Proposal};
+use load_model::{Assign, Broker, Case, Part};
+use plan_terms::{Memory, Proposal, Replicas};
 use proposal_set::proposals;
 use std::alloc::Global;
 
@@ -23,6 +27,30 @@ fn chunk_counts(alloc: Global, parts: &[Part]) -> Result<Vec<u32>, Memory>
         counts.push(part.chunks)?;
     }
     Ok(counts)
+}
+
+// The ids of the brokers.
+fn broker_ids(alloc: Global, brokers: &[Broker]) -> Result<Vec<u32>, Memory>
+    ensures { IfOk result (λ ids. ids.items ≡ map (λ b. b.id) brokers.now) }
+{
+    let mut ids = Vec::new(alloc);
+    for broker in brokers {
+        ids.push(broker.id)?;
+    }
+    Ok(ids)
+}
+
+// The ids of the brokers that are lost.
+fn dead_ids(alloc: Global, brokers: &[Broker]) -> Result<Vec<u32>, Memory>
+    ensures { IfOk result (λ ids. ids.items ≡ map (λ b. b.id) (filter (λ b. is_dead b.state) brokers.now)) }
+{
+    let mut ids = Vec::new(alloc);
+    for broker in brokers {
+        if broker.state.is_dead() {
+            ids.push(broker.id)?;
+        }
+    }
+    Ok(ids)
 }
 
 // Launches the proposals, where no task is unfinished.
@@ -38,14 +66,71 @@ fn start(exec: &mut Exec, alloc: Global, proposals: &[Proposal]) -> Result<(), M
     }
 }
 
-/// A new executor of the one assignment that has launched what leads to the other.
-pub fn launched(alloc: Global, case: &Case, before: &Assign, after: &Assign) -> Result<Exec, Memory>
-    requires before { Belongs case.now before.now }
-    requires after { Belongs case.now after.now }
-    ensures { IfOk result (IsBetweenRounds before.now (proposals before.now after.now)) }
+/// An executor of the case with these lists, without an execution. Its brokers are the case's, and those that are lost are
+/// dead.
+pub fn opened(alloc: Global, case: &Case, caps: Caps, lists: &Assign) -> Result<Exec, Memory>
+    requires broker_cap { 1 ≤ caps.broker }
+    requires cluster_cap { 1 ≤ caps.cluster }
+    requires leader_cap { 1 ≤ caps.leader }
+    requires lists { Belongs case.now lists.now }
+    ensures exec { IfOk result (λ exec. exec ≡ opening case.now lists.now caps) }
+    ensures case { IfOk result (λ _. IsCase case.now) }
 {
     let chunks = chunk_counts(alloc, case.parts())?;
-    let mut exec = Exec::new(alloc, before, &chunks)?;
+    let brokers = broker_ids(alloc, case.brokers())?;
+    let dead = dead_ids(alloc, case.brokers())?;
+    Exec::new(alloc, lists, &chunks, caps, &brokers, &dead)
+}
+
+// Whether the broker is lost.
+fn is_lost(case: &Case, broker: u32) -> bool
+    ensures { result ≡ is_lost case.now broker }
+{
+    match case.broker(broker) {
+        None => false,
+        Some(broker) => broker.state.is_dead(),
+    }
+}
+
+// Whether a member of the list is lost.
+fn any_lost(case: &Case, list: &[u32]) -> bool
+    ensures { result ≡ list_any (is_lost case.now) list.now }
+{
+    list.iter().any(|b| is_lost(case, *b))
+}
+
+// Whether no member of any of the lists is lost.
+fn none_lost(case: &Case, lists: &[Replicas]) -> bool
+    ensures { result ≡ list_all (λ list. not (list_any (is_lost case.now) list)) lists.now }
+{
+    lists.iter().all(|list| !any_lost(case, list.as_slice()))
+}
+
+/// Whether no member of any list is a lost broker.
+pub fn avoids_lost(case: &Case, lists: &Assign) -> bool
+    ensures test { result ≡ list_all (λ list. not (list_any (is_lost case.now) list)) lists.now }
+    ensures avoids { IsTrue result → All (λ list. list_any (is_lost case.now) list ≡ false) lists.now }
+{
+    none_lost(case, lists.lists())
+}
+
+/// A new executor of the one assignment that has launched what leads to the other.
+pub fn launched(
+    alloc: Global,
+    case: &Case,
+    caps: Caps,
+    before: &Assign,
+    after: &Assign,
+) -> Result<Exec, Memory>
+    requires broker_cap { 1 ≤ caps.broker }
+    requires cluster_cap { 1 ≤ caps.cluster }
+    requires leader_cap { 1 ≤ caps.leader }
+    requires before { Belongs case.now before.now }
+    requires after { Belongs case.now after.now }
+    requires no_lost { All (λ list. list_any (is_lost case.now) list ≡ false) after.now }
+    ensures { IfOk result (IsBetweenRounds before.now (proposals before.now after.now)) }
+{
+    let mut exec = opened(alloc, case, caps, before)?;
     let changes = proposals(alloc, before, after)?;
     start(&mut exec, alloc, &changes)?;
     Ok(exec)
@@ -82,23 +167,28 @@ fn drain(exec: &mut Exec)
     }
 }
 
-/// Carries out, on one thread, what takes the case's partitions from the one assignment to the other: launches the
+/// Carries out within the caps, on one thread, what takes the case's partitions from the one assignment to the other: launches the
 /// proposals, then takes work and reports it done until nothing is left.
 pub fn carry_out(
     alloc: Global,
     case: &Case,
+    caps: Caps,
     before: &Assign,
     after: &Assign,
 ) -> Result<Exec, Memory>
+    requires broker_cap { 1 ≤ caps.broker }
+    requires cluster_cap { 1 ≤ caps.cluster }
+    requires leader_cap { 1 ≤ caps.leader }
     requires before { Belongs case.now before.now }
     requires after { Belongs case.now after.now }
+    requires no_lost { All (λ list. list_any (is_lost case.now) list ≡ false) after.now }
     ensures drained { IfOk result (λ exec. first_unfinished exec ≡ None) }
     ensures lists { IfOk result (λ exec. lists_now exec ≡ after.now) }
     ensures base { IfOk result (λ exec. exec.base ≡ before.now) }
     ensures tasks { IfOk result (λ exec. map proposal_of exec.tasks ≡ proposals before.now after.now) }
     ensures completed { IfOk result (λ exec. All (λ t. t.phase ≡ Phase.Completed) exec.tasks) }
 {
-    let mut exec = launched(alloc, case, before, after)?;
+    let mut exec = launched(alloc, case, caps, before, after)?;
     drain(&mut exec);
     Ok(exec)
 }

@@ -1,19 +1,28 @@
 // The executor's state, and its calls.
-ghost use Rattle.std.specs.Prelude.{◌≡◌, ◌+◌, ◌<◌, ◌≤◌, ◌^◌, ◌&&◌, not, if◌then◌else◌, length, Ok, Err, None, IfOk, IfErr, OnOk, OnErr, []};
-ghost use Rattle.std.specs.List.{All};
-ghost use Rattle.exec_terms.specs.Machine.{next_work, task_at, after_take, after_launch, first_unfinished, list_now, lists_now};
-ghost use Rattle.exec_terms.specs.Leases.{test_lease, end_lease, after_copied, copied_reply, after_commit, commit_reply};
+ghost use Rattle.std.specs.Prelude.{◌≡◌, ◌+◌, ◌<◌, ◌≤◌, ◌^◌, ◌&&◌, not, if◌then◌else◌, length, IsTrue, Ok, Err, None, IfOk, IfErr, OnOk, OnErr, true, false, nat_lt, bytes_eq};
+ghost use Rattle.std.specs.List.{All, list_all, position};
+ghost use Rattle.plan_terms.specs.Belongs.{distinct};
+ghost use Rattle.plan_terms.specs.Cluster.{has};
+ghost use Rattle.exec_terms.specs.Machine.{next_work, may_start, task_at, taken, after_take, after_launch, first_unfinished, list_now, lists_now};
+ghost use Rattle.exec_terms.specs.Leases.{test_lease, end_lease, after_copied, copied_reply, after_copy_failed, copy_failed_reply, after_commit, commit_reply, after_cancel, cancel_reply, give_back_reply, held, held_for};
+ghost use Rattle.exec_terms.specs.Stops.{after_stop, stop_reply, after_kill, kill_reply};
 ghost use Rattle.exec_terms.specs.Words.{is_aborting, is_cancel, union_of, list_shown};
-ghost use Rattle.exec_terms.specs.Runs.{new_state, greatest_caps, CanLaunch, IsExecuting};
+ghost use Rattle.exec_terms.specs.Runs.{new_state, hosts_of, CanLaunch, IsExecuting};
+ghost use Rattle.executor_core.specs.Alone.{proposal_of};
+ghost use Rattle.executor_core.specs.Kept.{AreCounts};
+ghost use Rattle.executor_core.specs.Launch.{fits_launch, may_launch};
 
-use crate::{change, scan};
+use crate::{admit, change, scan};
+use cap_ledger::{Caps, Counts};
 use exec_terms::{
-    Caps, Given, Host, Idle, LaunchFault, LeaseFault, Left, Phase, Task, Work, WorkKind,
+    Faults, Given, Host, Idle, KillFault, Killed, LaunchFault, LeaseFault, Left, NothingToStop,
+    Phase, Stopped, Task, Work, WorkKind,
 };
 use load_model::Assign;
 use plan_terms::{Memory, Proposal, Replicas};
 use std::alloc::Global;
 use std::marker::Model;
+use task_planner::TaskQueue;
 
 /// Carries out one execution at a time: its tasks, and the work on each that is given and reported.
 #[derive(Drop)]
@@ -23,45 +32,114 @@ pub struct Exec {
     caps: Caps,
     hosts: Vec<Host>,
     tasks: Vec<Task>,
-    // beside each task, the list of its partition while it is in flight, so that reading it takes no memory
-    unions: Vec<Replicas>,
     stopped: bool,
     leases: u64,
+    // the ids of the hosts
+    brokers: Vec<u32>,
+    // beside each task, the list of its partition while it is in flight, so that reading it takes no memory
+    unions: Vec<Replicas>,
+    // beside each task, what it was made of
+    proposals: Vec<Proposal>,
+    // what the tasks in flight add, remove and move
+    counts: Counts,
+    // the tasks, and which of them wait
+    queue: TaskQueue,
 }
 
 impl Model for Exec {
     ghost use Rattle.exec_terms.specs.Machine.{State};
-    ghost use Rattle.exec_terms.specs.Valid.{IsKept};
+    ghost use Rattle.executor_core.specs.Kept.{IsKept};
 
     ghost Value = { State };
 
     ghost view = { λ e. record { base = e.base.items; chunks = e.chunks.items; caps = e.caps; hosts = e.hosts.items; tasks = e.tasks.items; stopped = e.stopped; leases = e.leases } };
 
-    ghost invariant = { λ e. IsKept (record { base = e.base.items; chunks = e.chunks.items; caps = e.caps; hosts = e.hosts.items; tasks = e.tasks.items; stopped = e.stopped; leases = e.leases }) e.unions.items };
+    ghost invariant = { λ e. IsKept (record { base = e.base.items; chunks = e.chunks.items; caps = e.caps; hosts = e.hosts.items; tasks = e.tasks.items; stopped = e.stopped; leases = e.leases }) e.brokers.items e.unions.items e.proposals.items e.counts e.queue };
 }
 
 impl Exec {
-    /// An executor of these lists, without an execution. Each replica of partition p takes `chunks[p]` copies. Caps are at
-    /// their greatest, and no broker is dead.
-    pub fn new(alloc: Global, lists: &Assign, chunks: &[u32]) -> Result<Exec, Memory>
+    /// An executor of these lists, without an execution. Each replica of partition p takes `chunks[p]` copies, at most 1,000.
+    /// The dead brokers are among the brokers.
+    pub fn new(
+        alloc: Global,
+        lists: &Assign,
+        chunks: &[u32],
+        caps: Caps,
+        brokers: &[u32],
+        dead: &[u32],
+    ) -> Result<Exec, Memory>
         requires one_each { length chunks.now ≡ length lists.now }
         requires few { All (λ n. n ≤ 1000) chunks.now }
-        ensures { IfOk result (λ exec. exec ≡ new_state lists.now chunks.now greatest_caps []) }
+        requires broker_cap { 1 ≤ caps.broker }
+        requires cluster_cap { 1 ≤ caps.cluster }
+        requires leader_cap { 1 ≤ caps.leader }
+        requires distinct { IsTrue (distinct brokers.now) }
+        requires members { All (λ list. list_all (has brokers.now) list ≡ true) lists.now }
+        requires dead { list_all (has brokers.now) dead.now ≡ true }
+        ensures { IfOk result (λ exec. exec ≡ new_state lists.now chunks.now caps (hosts_of brokers.now dead.now)) }
     {
+        let base = change::copies(alloc, lists.lists())?;
+        let none = Vec::new(alloc);
         Ok(Exec {
-            base: change::copies(alloc, lists.lists())?,
+            base,
             chunks: Vec::from_slice(alloc, chunks)?,
-            caps: Caps {
-                broker: u32::MAX,
-                cluster: u32::MAX,
-                leader: u32::MAX,
-            },
-            hosts: Vec::new(alloc),
+            caps,
+            hosts: change::hosts(alloc, brokers, dead)?,
             tasks: Vec::new(alloc),
-            unions: Vec::new(alloc),
             stopped: false,
             leases: 0,
+            brokers: Vec::from_slice(alloc, brokers)?,
+            unions: Vec::new(alloc),
+            counts: Counts::new(alloc, brokers)?,
+            queue: TaskQueue::new(alloc, brokers, none.as_slice())?,
+            proposals: none,
         })
+    }
+
+    /// Whether the proposals can be launched: at most 10,000, of partitions that differ, each from the list that its partition
+    /// has now to 1 to 8 distinct known brokers, and no dead broker is added or would lead where the leader alone changes.
+    pub fn can_launch(&self, proposals: &[Proposal]) -> bool
+        ensures test { result ≡ may_launch self.now proposals.now }
+        ensures launches { IsTrue result → CanLaunch self.now proposals.now }
+    {
+        self.may_launch(proposals)
+    }
+
+    // The same, as a test.
+    #[tactic(auto, unfolding(crate::specs::Launch::may_launch))]
+    fn may_launch(&self, proposals: &[Proposal]) -> bool
+        ensures { result ≡ may_launch self.now proposals.now }
+    {
+        proposals.len() <= 10000
+            && admit::have_distinct_parts(proposals)
+            && self.fits_all(proposals)
+    }
+
+    // Whether each proposal can be launched.
+    fn fits_all(&self, proposals: &[Proposal]) -> bool
+        ensures { result ≡ list_all (fits_launch self.now) proposals.now }
+    {
+        proposals.iter().all(|p| self.fits_launch(p))
+    }
+
+    // Whether the proposal can be launched.
+    #[tactic(auto, unfolding(crate::specs::Launch::fits_launch))]
+    fn fits_launch(&self, proposal: &Proposal) -> bool
+        ensures { result ≡ fits_launch self.now proposal.now }
+    {
+        let before = proposal.before.as_slice();
+        let after = proposal.after.as_slice();
+        self.has_list(proposal.part as usize, before)
+            && admit::is_replica_list(after)
+            && admit::are_hosts(self.hosts.as_slice(), after)
+            && admit::needs_no_dead(self.hosts.as_slice(), before, after)
+    }
+
+    // Whether there is such a partition, and the list is the one that it has now.
+    fn has_list(&self, part: usize, list: &[u32]) -> bool
+        ensures { result ≡ (nat_lt part (length self.now.base) && bytes_eq list.now (list_now self.now part)) }
+    {
+        part < self.base.len() && list == self.list_at(part)
     }
 
     /// Starts an execution: each proposal is a task that waits.
@@ -78,15 +156,19 @@ impl Exec {
         let base = self.lists_now(alloc)?;
         let tasks = change::new_tasks(alloc, self.chunks.as_slice(), proposals)?;
         let unions = change::unions_of(alloc, tasks.as_slice())?;
+        let copies = change::proposal_copies(alloc, proposals)?;
+        let queue = TaskQueue::new(alloc, self.brokers.as_slice(), proposals)?;
         self.base = base;
         self.tasks = tasks;
         self.unions = unions;
+        self.proposals = copies;
+        self.queue = queue;
         self.stopped = false;
         Ok(())
     }
 
-    // The work that `take` would give.
-    fn next_work(&self) -> Result<Given, Idle>
+    /// The work that `take` would give.
+    pub fn next_work(&self) -> Result<Given, Idle>
         requires { self.now.leases < 2 ^ 63 }
         ensures { result ≡ next_work self.now }
     {
@@ -97,10 +179,20 @@ impl Exec {
         if let Some(i) = scan::first_to_go_on(tasks) {
             return Ok(given(tasks, self.leases, i, tasks[i].next_step(), false));
         }
-        if let Some(i) = scan::first_to_start(&self.caps, tasks) {
+        if let Some(i) = self.first_to_start() {
             return Ok(given(tasks, self.leases, i, tasks[i].next_step(), true));
         }
         Err(scan::idle(tasks))
+    }
+
+    // The first task that may start.
+    fn first_to_start(&self) -> Option<usize>
+        ensures { result ≡ position (may_start self.now.caps self.now.tasks) self.now.tasks }
+    {
+        match self.queue.first_fitting(&self.caps, &self.counts) {
+            None => None,
+            Some(i) => Some(i as usize),
+        }
     }
 
     /// Gives the next work, under a new lease.
@@ -110,14 +202,41 @@ impl Exec {
         ensures reply { result ≡ next_work self.old }
     {
         let given = self.next_work()?;
-        self.tasks[given.task as usize].lend(given.lease, given.work);
-        self.leases = given.lease;
+        if given.starts {
+            self.start(given);
+        } else {
+            self.go_on(given);
+        }
         Ok(given)
     }
 
-    // The task that holds the lease for this kind of work, or why the lease is worth nothing.
+    // A task that waited begins with the work that is next.
+    fn start(&mut self, given: Given)
+        requires next { next_work self.old ≡ Ok given }
+        requires starts { given.starts ≡ true }
+        ensures { self.new ≡ taken self.old (Ok given) }
+    {
+        let task = &mut self.tasks[given.task as usize];
+        self.counts
+            .enter(task.before.as_slice(), task.after.as_slice());
+        self.queue.remove(given.task);
+        task.lend(given.lease, given.work);
+        self.leases = given.lease;
+    }
+
+    // A task that has begun goes on with the work that is next.
+    fn go_on(&mut self, given: Given)
+        requires next { next_work self.old ≡ Ok given }
+        requires goes_on { given.starts ≡ false }
+        ensures { self.new ≡ taken self.old (Ok given) }
+    {
+        self.tasks[given.task as usize].lend(given.lease, given.work);
+        self.leases = given.lease;
+    }
+
+    /// The task that holds the lease for this kind of work, or why the lease is worth nothing. Nothing changes.
     #[tactic(auto, unfolding(exec_terms::specs::Leases::test_lease))]
-    fn test_lease(&self, lease: u64, kind: WorkKind) -> Result<u32, LeaseFault>
+    pub fn test_lease(&self, lease: u64, kind: WorkKind) -> Result<u32, LeaseFault>
         ensures { result ≡ test_lease self.now lease kind }
     {
         let tasks = self.tasks.as_slice();
@@ -155,6 +274,25 @@ impl Exec {
         }
     }
 
+    /// A copy failed. Answers how many copies of the task have failed; the third one dooms it.
+    pub fn copy_failed(&mut self, lease: u64) -> Result<Faults, LeaseFault>
+        ensures state { self.new ≡ after_copy_failed self.old lease }
+        ensures reply { result ≡ copy_failed_reply self.old lease }
+    {
+        match self.test_lease(lease, WorkKind::Copy) {
+            Ok(i) => {
+                let task = &mut self.tasks[i as usize];
+                task.fail_copy();
+                Ok(Faults(task.faults))
+            }
+            Err(LeaseFault::AbortAsked) => {
+                self.end_lease(lease);
+                Err(LeaseFault::AbortAsked)
+            }
+            Err(LeaseFault::Stale(last)) => Err(LeaseFault::Stale(last)),
+        }
+    }
+
     /// The new list is the list.
     pub fn commit(&mut self, lease: u64) -> Result<(), LeaseFault>
         ensures state { self.new ≡ after_commit self.old lease }
@@ -162,7 +300,10 @@ impl Exec {
     {
         match self.test_lease(lease, WorkKind::Commit) {
             Ok(i) => {
-                self.tasks[i as usize].commit();
+                let task = &mut self.tasks[i as usize];
+                self.counts
+                    .leave(task.before.as_slice(), task.after.as_slice());
+                task.commit();
                 Ok(())
             }
             Err(LeaseFault::AbortAsked) => {
@@ -171,6 +312,91 @@ impl Exec {
             }
             Err(LeaseFault::Stale(last)) => Err(LeaseFault::Stale(last)),
         }
+    }
+
+    /// The old list is the list again. Answers what the task ended as.
+    pub fn cancel(&mut self, lease: u64) -> Result<Phase, LeaseFault>
+        ensures state { self.new ≡ after_cancel self.old lease }
+        ensures reply { result ≡ cancel_reply self.old lease }
+    {
+        match self.test_lease(lease, WorkKind::Cancel) {
+            Ok(i) => {
+                let task = &mut self.tasks[i as usize];
+                self.counts
+                    .leave(task.before.as_slice(), task.after.as_slice());
+                task.cancel();
+                Ok(task.phase)
+            }
+            Err(LeaseFault::AbortAsked) => {
+                self.end_lease(lease);
+                Err(LeaseFault::AbortAsked)
+            }
+            Err(LeaseFault::Stale(last)) => Err(LeaseFault::Stale(last)),
+        }
+    }
+
+    /// A lease of any kind is given back.
+    pub fn give_back(&mut self, lease: u64) -> Result<(), LeaseFault>
+        ensures state { self.new ≡ end_lease self.old lease }
+        ensures reply { result ≡ give_back_reply self.old lease }
+    {
+        match scan::first_holder(self.tasks.as_slice(), lease) {
+            None => Err(LeaseFault::Stale(self.leases)),
+            Some(_) => {
+                self.end_lease(lease);
+                Ok(())
+            }
+        }
+    }
+
+    /// The work for which a task holds the lease, whatever its phase.
+    pub fn held(&self, lease: u64) -> Option<Given>
+        ensures { result ≡ held self.now lease }
+    {
+        let tasks = self.tasks.as_slice();
+        match scan::first_holder(tasks, lease) {
+            None => None,
+            Some(i) => held_by(i, &tasks[i]),
+        }
+    }
+
+    /// Stops the execution: aborts the tasks that wait, and with force makes those in progress abort.
+    pub fn stop(&mut self, force: bool) -> Result<Stopped, NothingToStop>
+        ensures state { self.new ≡ after_stop self.old force }
+        ensures reply { result ≡ stop_reply self.old force }
+    {
+        if !scan::any_unfinished(self.tasks.as_slice()) {
+            return Err(NothingToStop);
+        }
+        let aborted = scan::count_pending(self.tasks.as_slice()) as u32;
+        let aborting = if force {
+            scan::count_in_progress(self.tasks.as_slice()) as u32
+        } else {
+            0
+        };
+        change::drop_waiting(&mut self.queue, self.tasks.as_slice());
+        change::stop_all(&mut self.tasks, force);
+        self.stopped = true;
+        Ok(Stopped { aborted, aborting })
+    }
+
+    /// A broker has died: tasks that wait and need it are dead, and those in flight are aborting and doomed.
+    pub fn kill(&mut self, broker: u32) -> Result<Killed, KillFault>
+        ensures state { self.new ≡ after_kill self.old broker }
+        ensures reply { result ≡ kill_reply self.old broker }
+    {
+        if !scan::is_host(self.hosts.as_slice(), broker) {
+            return Err(KillFault::NoSuchBroker);
+        }
+        if scan::has_died(self.hosts.as_slice(), broker) {
+            return Err(KillFault::AlreadyDead);
+        }
+        let dead = scan::count_waiting_for(self.tasks.as_slice(), broker) as u32;
+        let aborting = scan::count_going_to(self.tasks.as_slice(), broker) as u32;
+        change::drop_doomed(&mut self.queue, self.tasks.as_slice(), broker);
+        change::kill_all(&mut self.tasks, broker);
+        change::mark_all(&mut self.hosts, broker);
+        Ok(Killed { dead, aborting })
     }
 
     /// The list of a partition now: while it is in flight, the old list first, and then what the new one adds.
@@ -224,6 +450,28 @@ impl Exec {
         self.tasks.len() as u32
     }
 
+    /// What a task was made of: its partition, the list that it had, and the one that it is to have.
+    pub fn proposal(&self, task: u32) -> &Proposal
+        requires { task < length self.now.tasks }
+        ensures { result.now ≡ proposal_of (task_at self.now.tasks task) }
+    {
+        &self.proposals[task as usize]
+    }
+
+    /// How many tasks in flight add and remove each broker, move replicas, and change a leader alone.
+    pub fn counts(&self) -> &Counts
+        ensures { AreCounts self.now.hosts self.now.tasks result.now }
+    {
+        &self.counts
+    }
+
+    /// Whether the last execution was stopped.
+    pub fn stopped(&self) -> bool
+        ensures { result ≡ self.now.stopped }
+    {
+        self.stopped
+    }
+
     /// How many leases were given.
     pub fn leases(&self) -> u64
         ensures { result ≡ self.now.leases }
@@ -258,6 +506,23 @@ fn worth(tasks: &[Task], i: usize, kind: WorkKind) -> Result<u32, LeaseFault>
         Err(LeaseFault::AbortAsked)
     } else {
         Ok(i as u32)
+    }
+}
+
+// What the lease of task i is for.
+fn held_by(i: usize, task: &Task) -> Option<Given>
+    requires { i < 2 ^ 32 }
+    ensures { result ≡ held_for i task.now }
+{
+    match task.lease {
+        None => None,
+        Some(lease) => Some(Given {
+            lease: lease.number,
+            task: i as u32,
+            part: task.part,
+            work: lease.work,
+            starts: false,
+        }),
     }
 }
 

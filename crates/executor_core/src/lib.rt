@@ -1,6 +1,7 @@
 //! The executor of replica movements: which work comes next, and what each event does.
 #![tactic(auto)]
 
+mod admit;
 mod alone;
 mod change;
 mod exec;
@@ -8,5 +9,5 @@ mod scan;
 #[cfg(test)]
 mod tests;
 
-pub use alone::carry_out;
+pub use alone::{avoids_lost, carry_out, opened};
 pub use exec::Exec;

@@ -1,117 +1,11 @@
-// What the executor reads off the plain list of its tasks, from the front.
-ghost use Rattle.std.specs.Prelude.{◌≡◌, ◌<◌, ◌≤◌, ◌^◌, ◌&&◌, ◌||◌, ◌==◌, not, nat_lt, length, if◌then◌else◌};
-ghost use Rattle.std.specs.List.{list_any, list_all, count_by, position, filter};
-ghost use Rattle.plan_terms.specs.Change.{added};
-ghost use Rattle.exec_terms.specs.Words.{is_pending, is_in_progress, is_aborting, in_flight, is_unfinished, adds, removes, is_replica_task, is_free, holds, holds_for, is_on};
-ghost use Rattle.exec_terms.specs.Machine.{adding, removing, replica_tasks, leader_tasks, unfinished_replica_tasks, has_room, has_leader_room, may_start, idle, any_unfinished};
+// What the executor reads off the plain lists of its tasks and brokers, from the front.
+ghost use Rattle.std.specs.Prelude.{◌≡◌, ◌&&◌, ◌==◌};
+ghost use Rattle.std.specs.List.{list_any, count_by, position};
+ghost use Rattle.exec_terms.specs.Words.{is_pending, is_in_progress, is_aborting, is_unfinished, is_free, holds, holds_for, is_on, needs};
+ghost use Rattle.exec_terms.specs.Machine.{idle, any_unfinished};
+ghost use Rattle.exec_terms.specs.Stops.{is_host, has_died};
 
-use exec_terms::{Caps, Idle, Task, WorkKind, has};
-
-/// How many tasks in flight add the broker.
-pub fn adding(tasks: &[Task], broker: u32) -> usize
-    ensures { result ≡ adding tasks.now broker }
-{
-    tasks
-        .iter()
-        .filter(|t| t.phase.in_flight() && t.adds(broker))
-        .count()
-}
-
-/// How many tasks in flight remove the broker.
-pub fn removing(tasks: &[Task], broker: u32) -> usize
-    ensures { result ≡ removing tasks.now broker }
-{
-    tasks
-        .iter()
-        .filter(|t| t.phase.in_flight() && t.removes(broker))
-        .count()
-}
-
-/// How many tasks in flight move replicas.
-pub fn replica_tasks(tasks: &[Task]) -> usize
-    ensures { result ≡ replica_tasks tasks.now }
-{
-    tasks
-        .iter()
-        .filter(|t| t.phase.in_flight() && t.is_replica_task())
-        .count()
-}
-
-/// How many tasks in flight change a leader alone.
-pub fn leader_tasks(tasks: &[Task]) -> usize
-    ensures { result ≡ leader_tasks tasks.now }
-{
-    tasks
-        .iter()
-        .filter(|t| t.phase.in_flight() && !t.is_replica_task())
-        .count()
-}
-
-/// How many tasks that move replicas have not ended.
-pub fn unfinished_replica_tasks(tasks: &[Task]) -> usize
-    ensures { result ≡ unfinished_replica_tasks tasks.now }
-{
-    tasks
-        .iter()
-        .filter(|t| t.phase.is_unfinished() && t.is_replica_task())
-        .count()
-}
-
-// Whether fewer tasks than the cap add each broker that the task adds.
-fn all_may_gain(cap: u32, tasks: &[Task], before: &[u32], after: &[u32]) -> bool
-    ensures { result ≡ list_all (λ b. nat_lt (adding tasks.now b) cap) (added before.now after.now) }
-{
-    after
-        .iter()
-        .filter(|b| !has(before, **b))
-        .all(|b| adding(tasks, *b) < cap as usize)
-}
-
-// Whether fewer tasks than the cap remove each broker that the task removes.
-fn all_may_lose(cap: u32, tasks: &[Task], before: &[u32], after: &[u32]) -> bool
-    ensures { result ≡ list_all (λ b. nat_lt (removing tasks.now b) cap) (added after.now before.now) }
-{
-    before
-        .iter()
-        .filter(|b| !has(after, **b))
-        .all(|b| removing(tasks, *b) < cap as usize)
-}
-
-/// Whether the caps leave room for a replica task.
-pub fn has_room(caps: &Caps, tasks: &[Task], task: &Task) -> bool
-    ensures { result ≡ has_room caps.now tasks.now task.now }
-{
-    all_may_gain(
-        caps.broker,
-        tasks,
-        task.before.as_slice(),
-        task.after.as_slice(),
-    ) && all_may_lose(
-        caps.broker,
-        tasks,
-        task.before.as_slice(),
-        task.after.as_slice(),
-    ) && replica_tasks(tasks) < caps.cluster as usize
-}
-
-/// Whether the caps leave room for a leadership task, and no replica task is unfinished.
-pub fn has_leader_room(caps: &Caps, tasks: &[Task]) -> bool
-    ensures { result ≡ has_leader_room caps.now tasks.now }
-{
-    leader_tasks(tasks) < caps.leader as usize && unfinished_replica_tasks(tasks) == 0
-}
-
-/// Whether the task waits and there is room for it.
-pub fn may_start(caps: &Caps, tasks: &[Task], task: &Task) -> bool
-    ensures { result ≡ may_start caps.now tasks.now task.now }
-{
-    task.phase.is_pending()
-        && if task.is_replica_task() {
-            has_room(caps, tasks, task)
-        } else {
-            has_leader_room(caps, tasks)
-        }
-}
+use exec_terms::{Host, Idle, Task, WorkKind};
 
 /// The first task that wants its cancel.
 pub fn first_to_cancel(tasks: &[Task]) -> Option<usize>
@@ -129,13 +23,6 @@ pub fn first_to_go_on(tasks: &[Task]) -> Option<usize>
     tasks
         .iter()
         .position(|t| t.phase.is_in_progress() && t.is_free())
-}
-
-/// The first task that may start.
-pub fn first_to_start(caps: &Caps, tasks: &[Task]) -> Option<usize>
-    ensures { result ≡ position (may_start caps.now tasks.now) tasks.now }
-{
-    tasks.iter().position(|t| may_start(caps, tasks, t))
 }
 
 /// The task that holds the lease.
@@ -184,6 +71,58 @@ pub fn idle(tasks: &[Task]) -> Idle
     } else {
         Idle::NoExecution
     }
+}
+
+/// How many tasks wait.
+pub fn count_pending(tasks: &[Task]) -> usize
+    ensures { result ≡ count_by (λ t. is_pending t.phase) tasks.now }
+{
+    tasks.iter().filter(|t| t.phase.is_pending()).count()
+}
+
+/// How many tasks are in progress.
+pub fn count_in_progress(tasks: &[Task]) -> usize
+    ensures { result ≡ count_by (λ t. is_in_progress t.phase) tasks.now }
+{
+    tasks.iter().filter(|t| t.phase.is_in_progress()).count()
+}
+
+/// How many tasks that wait need the broker.
+pub fn count_waiting_for(tasks: &[Task], broker: u32) -> usize
+    ensures { result ≡ count_by (λ t. needs t broker && is_pending t.phase) tasks.now }
+{
+    tasks.iter().filter(|t| waits_for(t, broker)).count()
+}
+
+/// Whether the task waits and needs the broker.
+pub fn waits_for(task: &Task, broker: u32) -> bool
+    ensures { result ≡ (needs task.now broker && is_pending task.now.phase) }
+{
+    task.needs(broker) && task.phase.is_pending()
+}
+
+/// How many tasks in progress need the broker.
+pub fn count_going_to(tasks: &[Task], broker: u32) -> usize
+    ensures { result ≡ count_by (λ t. needs t broker && is_in_progress t.phase) tasks.now }
+{
+    tasks
+        .iter()
+        .filter(|t| t.needs(broker) && t.phase.is_in_progress())
+        .count()
+}
+
+/// Whether the broker is known.
+pub fn is_host(hosts: &[Host], broker: u32) -> bool
+    ensures { result ≡ is_host hosts.now broker }
+{
+    hosts.iter().any(|h| h.id == broker)
+}
+
+/// Whether the broker is dead already.
+pub fn has_died(hosts: &[Host], broker: u32) -> bool
+    ensures { result ≡ has_died hosts.now broker }
+{
+    hosts.iter().any(|h| h.id == broker && h.dead)
 }
 
 /// The task of the partition.

@@ -1,0 +1,7 @@
+//! The tasks of an execution that wait, and which of them may start.
+#![tactic(auto)]
+
+mod queue;
+mod slot;
+
+pub use queue::TaskQueue;
