@@ -1,0 +1,14 @@
+pub mod BandLemmas
+pub mod BoundLemmas
+pub mod BrokerLemmas
+pub mod CaseLemmas
+pub mod HeatLemmas
+pub mod LoadLemmas
+pub mod LoopLemmas
+pub mod MadeLemmas
+pub mod PairLemmas
+pub mod PartitionGoals
+pub mod PartitionHeat
+pub mod SideLemmas
+pub mod TotalLemmas
+pub mod TradeLemmas

@@ -1,0 +1,10 @@
+pub mod Bands
+pub mod Examples
+pub mod Heats
+pub mod Laws
+pub mod Limits
+pub mod Pairs
+pub mod Partitions
+pub mod PerBroker
+pub mod Quantity
+pub mod Sides
