@@ -1,8 +1,7 @@
 -- Laws of goals over brokers: the two brokers of an action decide what it does to all units.
-use Rattle.std.specs.Prelude.{if◌then◌else◌, map, not, ◌==◌, ◌&&◌, IsTrue, ◌↔◌, Bool, cond, nat_lt, nat_le}
-use Rattle.std.proofs.Common.{◌≡◌, ℕ, ◌+◌, ◌-◌, ◌*◌, ◌^◌, ◌<◌, ◌≤◌, true, false, List, [], ◌∷◌, length, get_or, zero, suc, refl, ap, ◌∙◌, sym, arith, inl, inr, eq-eqb}
-use Rattle.std.proofs.lemmas.Bool.{ne_eqb, eqb-true, eqb-false, and_parts, and_from, false≢true, true≢false, not-true, cases_eq, cases_Bool, ltb-true, lt-ltb, leb-true, le-leb}
-use Rattle.std.specs.List.{list_any, filter}
+use Rattle.std.specs.Prelude.{map, ◌==◌, IsTrue, ◌↔◌, Bool, cond, nat_lt, nat_le}
+use Rattle.std.proofs.Common.{◌≡◌, ℕ, ◌+◌, ◌<◌, ◌≤◌, true, false, List, [], ◌∷◌, length, get_or, zero, suc, refl, ap, ◌∙◌, sym, arith, inl, inr, eq-eqb}
+use Rattle.std.proofs.lemmas.Bool.{ne_eqb, eqb-true, and_parts, true≢false, not-true, cases_eq, cases_Bool, ltb-true, lt-ltb, leb-true, le-leb}
 use Rattle.plan_terms.specs.Cluster.{Cluster, Lists, has}
 use Rattle.plan_terms.specs.Goal.{Accepts, Lessens, measure, sum_below}
 use Rattle.plan_terms.specs.Effect.{after}
@@ -18,12 +17,15 @@ use Rattle.plan_terms.specs.declared.actions.Action.{Action}
 
 -- the first broker of an id
 module _ (f : Broker → ℕ) (k : ℕ) where
+  -- a first broker of the id is the one
   at_id-hit : (x : Broker) (xs : List Broker) → (x.id == k) ≡ true → at_id f (x ∷ xs) k ≡ f x
   at_id-hit x xs h = rw h refl
 
+  -- a first broker of another id is passed over
   at_id-miss : (x : Broker) (xs : List Broker) → (x.id == k) ≡ false → at_id f (x ∷ xs) k ≡ at_id f xs k
   at_id-miss x xs h = rw h refl
 
+  -- where none has the id, there is 0
   at_id-absent : (xs : List Broker) → has (ids_of xs) k ≡ false → at_id f xs k ≡ 0
   at_id-absent [] h = refl
   at_id-absent (x ∷ xs) h = elim (cases_Bool (x.id == k)) as (λ _. at_id f (x ∷ xs) k ≡ 0) [
@@ -35,9 +37,11 @@ module _ (f : Broker → ℕ) (k : ℕ) where
 head-absent : (x : Broker) (xs : List Broker) → distinct_ids (x ∷ xs) ≡ true → has (ids_of xs) x.id ≡ false
 head-absent x xs h = not-true _ (and_parts _ _ h).0
 
+-- the others have distinct ids too
 tail-distinct : (x : Broker) (xs : List Broker) → distinct_ids (x ∷ xs) ≡ true → distinct_ids xs ≡ true
 tail-distinct x xs h = (and_parts _ _ h).1
 
+-- behind the broker of an id, none has it
 at_id-after : (f : Broker → ℕ) (k : ℕ) (x : Broker) (xs : List Broker) → distinct_ids (x ∷ xs) ≡ true → x.id ≡ k → at_id f xs k ≡ 0
 at_id-after f k x xs h e = at_id-absent f k xs (rw e at (head-absent x xs h))
 
@@ -46,22 +50,26 @@ abbrev pub added : (Broker → ℕ) → List Broker → ℕ
 added f [] = 0
 added f (x ∷ xs) = f x + added f xs
 
+-- a sum without its first term
 sum_below-shift : (f : ℕ → ℕ) (n : ℕ) → sum_below f (suc n) ≡ f 0 + sum_below (λ k. f (suc k)) n
 sum_below-shift f zero = omega arith
 sum_below-shift f (suc n) = omega (arith, sum_below-shift f n)
 
+-- the sum over units is the sum over their brokers
 pub sum_below-added : (f : Broker → ℕ) (xs : List Broker) → sum_below (λ u. get_or (map f xs) u 0) (length xs) ≡ added f xs
 sum_below-added f [] = refl
 sum_below-added f (x ∷ xs) = sum_below-shift (λ u. get_or (map f (x ∷ xs)) u 0) (length xs) ∙ ap (λ n. f x + n) (sum_below-added f xs)
 
 -- two quantities of brokers that differ at two ids at most
 module _ (F G : Broker → ℕ) where
+  -- what is no greater at an id stays so without the first broker
   le-tail : (k : ℕ) (x : Broker) (xs : List Broker) → distinct_ids (x ∷ xs) ≡ true → at_id G (x ∷ xs) k ≤ at_id F (x ∷ xs) k → at_id G xs k ≤ at_id F xs k
   le-tail k x xs d h = elim (cases_Bool (x.id == k)) as (λ _. at_id G xs k ≤ at_id F xs k) [
     | inl t ↦ omega (arith, at_id-after G k x xs d (eqb-true _ _ t))
     | inr e ↦ omega (arith, at_id-miss G k x xs e, at_id-miss F k x xs e)
   ]
 
+  -- what is no greater at the first broker's id is so of the first broker
   le-head : (k : ℕ) (x : Broker) (xs : List Broker) → x.id ≡ k → at_id G (x ∷ xs) k ≤ at_id F (x ∷ xs) k → G x ≤ F x
   le-head k x xs e h = omega (arith, at_id-hit G k x xs (eq-eqb _ _ e), at_id-hit F k x xs (eq-eqb _ _ e))
 
@@ -74,6 +82,7 @@ module _ (F G : Broker → ℕ) where
   ]
 
   module _ (one two : ℕ) (same : (x : Broker) → (x.id ≡ one → ⊥) → (x.id ≡ two → ⊥) → G x ≡ F x) where
+    -- where neither of the two rises, no unit does
     pub le-all : (xs : List Broker) → distinct_ids xs ≡ true → at_id G xs one ≤ at_id F xs one → at_id G xs two ≤ at_id F xs two
         → (u : ℕ) → u < length xs → get_or (map G xs) u 0 ≤ get_or (map F xs) u 0
     le-all [] d h i u l = absurd (omega arith)
@@ -86,6 +95,7 @@ module _ (F G : Broker → ℕ) where
     ]
     le-all (x ∷ xs) d h i (suc u) l = le-all xs (tail-distinct x xs d) (le-tail one x xs d h) (le-tail two x xs d i) u (omega arith)
 
+    -- the sum changes as the two do
     pub added-two : (xs : List Broker) → (one ≡ two → ⊥) → distinct_ids xs ≡ true
         → added G xs + at_id F xs one + at_id F xs two ≡ added F xs + at_id G xs one + at_id G xs two
     added-two [] ne d = refl
@@ -118,6 +128,7 @@ absent-units k (x ∷ xs) h = elim (cases_Bool (x.id == k)) as (λ _. has (ids_o
       ]
 ]
 
+-- the brokers that aren't lost have distinct ids
 pub distinct-units : (xs : List Broker) → distinct_ids xs ≡ true → distinct_ids (unit_brokers xs) ≡ true
 distinct-units [] h = refl
 distinct-units (x ∷ xs) h =
@@ -139,58 +150,72 @@ at_id-own h (x ∷ xs) k = elim (cases_Bool (x.id == k)) as (λ _. at_id (λ x. 
 -- what an action that fits does to a goal over brokers
 module _ (hard : Bool) (w : Weights) (b : Bounds) (c : Cluster) (lists : Lists) (ids : distinct_ids c.brokers ≡ true) (one_each : length lists ≡ length c.parts)
     (a : Action) (fit : fits lists a ≡ true) where
+  -- the excess of a broker before the action
   abbrev old : Broker → ℕ
   old x = broker_excess w b c lists x
 
+  -- and after it
   abbrev new : Broker → ℕ
   new x = broker_excess w b c (after a lists) x
 
+  -- the brokers that aren't lost
   abbrev units : List Broker
   units = unit_brokers c.brokers
 
+  -- what the action does
   abbrev the_trade : Trade
   the_trade = trade w c.parts lists a
 
+  -- the action trades
   law : Trades the_trade (λ k. quantity w c.parts k lists) (λ k. quantity w c.parts k (after a lists))
   law = trades w c.parts lists one_each a fit
 
+  -- the excess of every other broker stays
   same : (x : Broker) → (x.id ≡ the_trade.from → ⊥) → (x.id ≡ the_trade.to → ⊥) → new x ≡ old x
   same x h i = rw (total-after w c.parts lists a fit, law.others x.id h i) refl
 
+  -- the giver's excess before
   old-from : at_id old units the_trade.from ≡ (sides w b c lists a).giver
   unfolding sides
   old-from = at_id-own (λ k x. bound_excess b (total w c.parts lists) (quantity w c.parts k lists) x) units the_trade.from
 
+  -- the taker's excess before
   old-to : at_id old units the_trade.to ≡ (sides w b c lists a).taker
   unfolding sides
   old-to = at_id-own (λ k x. bound_excess b (total w c.parts lists) (quantity w c.parts k lists) x) units the_trade.to
 
+  -- the excess after it, by what the broker carries then
   new-at : (k q : ℕ) → quantity w c.parts k (after a lists) ≡ q → at_id new units k ≡ excess_with w b c lists k q
   new-at k q e =
       at_id-own (λ k x. bound_excess b (total w c.parts (after a lists)) (quantity w c.parts k (after a lists)) x) units k
       ∙ ap (λ n. at_id (bound_excess b n (quantity w c.parts k (after a lists))) units k) (total-after w c.parts lists a fit)
       ∙ ap (λ n. at_id (bound_excess b (total w c.parts lists) n) units k) e
 
+  -- the giver's excess after
   new-from : at_id new units the_trade.from ≡ (sides w b c lists a).giver_after
   unfolding sides
   new-from = new-at the_trade.from _ (omega (arith, law.giver))
 
+  -- the taker's excess after
   new-to : at_id new units the_trade.to ≡ (sides w b c lists a).taker_after
   unfolding sides
   new-to = new-at the_trade.to _ (omega (arith, law.taker))
 
+  -- where neither of the two rises, the goal accepts the action
   pub accepts-sides : (sides w b c lists a).giver_after ≤ (sides w b c lists a).giver → (sides w b c lists a).taker_after ≤ (sides w b c lists a).taker → Accepts (per_broker hard w b c) lists a
   accepts-sides h i = record {
     no_unit_rises = le-all old new the_trade.from the_trade.to same units (distinct-units c.brokers ids)
         (omega (arith, old-from, new-from)) (omega (arith, old-to, new-to));
   }
 
+  -- where it accepts the action, neither of the two rises
   pub sides-accepts : Accepts (per_broker hard w b c) lists a → ((sides w b c lists a).giver_after ≤ (sides w b c lists a).giver) × ((sides w b c lists a).taker_after ≤ (sides w b c lists a).taker)
   sides-accepts h = (
     omega (arith, old-from, new-from, le-at old new the_trade.from units h.no_unit_rises),
     omega (arith, old-to, new-to, le-at old new the_trade.to units h.no_unit_rises),
   )
 
+  -- the measure changes as the two excesses do
   pub measure-sides : measure (per_broker hard w b c) (after a lists) + (sides w b c lists a).giver + (sides w b c lists a).taker
       ≡ measure (per_broker hard w b c) lists + (sides w b c lists a).giver_after + (sides w b c lists a).taker_after
   unfolding measure
@@ -214,6 +239,7 @@ module _ (hard : Bool) (w : Weights) (b : Bounds) (c : Cluster) (lists : Lists) 
         (λ h. le-leb _ _ (sides-accepts h).1),
       )
 
+  -- where the giver's excess rises, the goal doesn't accept the action
   pub Accepts-else : (s : Sides) → s ≡ sides w b c lists a → s.giver < s.giver_after → IsTrue (nat_le s.giver_after s.giver) ↔ Accepts (per_broker hard w b c) lists a
   Accepts-else s e l =
       let first = rw e at l in

@@ -1,6 +1,6 @@
 -- A case is within the limits.
 use Rattle.std.specs.Prelude.{◌||◌, nat_le, option_map, if◌then◌else◌, slice_index}
-use Rattle.std.proofs.Common.{◌≡◌, ℕ, ◌<◌, ◌≤◌, Bool, true, false, eqb, List, [], ◌∷◌, ◌++◌, length, zero, suc, refl, ◌∙◌, arith, Option, Some, None}
+use Rattle.std.proofs.Common.{◌≡◌, ℕ, ◌<◌, Bool, true, false, eqb, List, [], ◌∷◌, ◌++◌, zero, suc, refl, ◌∙◌, arith, Option, Some, None}
 use Rattle.std.specs.List.{All, list_any}
 use Rattle.std.proofs.lemmas.List.Elements.{All-nil, All-cons}
 use Rattle.std.proofs.lemmas.Bool.{and_from, or_parts, or_from, leb-false, not_from_false, ne_eqb, both_ways}
@@ -69,6 +69,7 @@ distinct-unrepeated n seen (x ∷ xs) h =
       last : (t : Bool) (k : ℕ) → (t || (eqb k k || false)) ≡ true
       last t k = grind arith
 
+-- nothing comes of nothing alone
 option_map-None : {X Y : Type 0} (f : X → Y) (o : Option X) → option_map f o ≡ None → o ≡ None
 option_map-None f None h = refl
 option_map-None f (Some x) h = absurd cc
@@ -86,6 +87,7 @@ Limits-case c h =
     let within = WithinLimits-faultless c.brokers c.parts h.faultless in
     record {
       few_brokers = within.few_brokers;
+      few_topics = within.few_topics;
       few_parts = within.few_parts;
       loads = all_from_none is_heavy SmallLoads small_loads c.parts within.light;
       caps = all_from_none is_large SmallCap small_cap c.brokers within.small;

@@ -1,28 +1,23 @@
 -- Which actions cannot lessen a goal over brokers.
-use Rattle.std.specs.Prelude.{if◌then◌else◌, ◌==◌, nat_lt, IsTrue}
-use Rattle.std.proofs.Common.{◌≡◌, ℕ, ◌+◌, ◌-◌, ◌*◌, ◌<◌, ◌≤◌, true, false, Bool, List, [], ◌∷◌, length, refl, ap, ◌∙◌, sym, arith, inl, inr}
+use Rattle.std.specs.Prelude.{◌==◌, nat_lt}
+use Rattle.std.proofs.Common.{◌≡◌, ℕ, ◌+◌, ◌-◌, ◌*◌, ◌≤◌, true, false, Bool, List, [], ◌∷◌, length, refl, ap, ◌∙◌, sym, arith, inl, inr}
 use Rattle.std.proofs.lemmas.Bool.{cases_Bool, ltb-true, ltb-false}
-use Rattle.plan_terms.specs.Cluster.{Cluster, Lists, list_of}
-use Rattle.plan_terms.specs.Cluster.{leads}
+use Rattle.plan_terms.specs.Cluster.{Cluster, Lists}
 use Rattle.plan_terms.specs.Goal.{Lessens}
 use Rattle.plan_terms.specs.Fits.{fits}
-use Rattle.goal_terms.specs.Quantity.{Weights, quantity, total, part_weight, trade}
+use Rattle.goal_terms.specs.Quantity.{Weights, quantity, total, trade}
 use Rattle.goal_terms.specs.PerBroker.{Bounds, bound_excess, unit_brokers, per_broker, at_id, distinct_ids}
 use Rattle.goal_terms.specs.Sides.{excess_with, sides}
 use Rattle.goal_terms.specs.Heats.{bound_heat, heat_at_id, broker_heat}
 use Rattle.goal_terms.proofs.BrokerLemmas.{measure-sides}
 use Rattle.goal_terms.proofs.BoundLemmas.{product-le}
 use Rattle.plan_terms.specs.declared.cluster.Broker.{Broker}
-use Rattle.goal_terms.specs.declared.heat.Heat.{Heat}
-use Rattle.goal_terms.specs.declared.heat.Heat.TheVariants.{Cold, Above, Below, Other}
+use Rattle.goal_terms.specs.declared.heat.Heat.TheVariants.{Cold, Above, Below}
 use Rattle.plan_terms.specs.declared.actions.Action.{Action}
-use Rattle.plan_terms.specs.declared.actions.Action.TheVariants.{Move, Lead, Swap}
-
-heat_of : Bool → Bool → Heat
-heat_of above below = if above then Above else (if below then Below else Cold)
 
 -- what a heat says of one broker
 module _ (b : Bounds) (w q : ℕ) (x : Broker) where
+  -- a cold broker lies within its bounds
   cold-within : bound_heat b w q x ≡ Cold → (q * b.scale ≤ b.upper w x) × (b.lower w x ≤ q * b.scale)
   unfolding bound_heat
   cold-within h = elim (cases_Bool (nat_lt (b.upper w x) (q * b.scale))) as (λ _. (q * b.scale ≤ b.upper w x) × (b.lower w x ≤ q * b.scale)) [
@@ -56,18 +51,22 @@ module _ (b : Bounds) (w q : ℕ) (x : Broker) where
         | inr f ↦ let within = ltb-false _ _ f in omega arith
       ]
 
+  -- and has no excess
   pub cold-excess : bound_heat b w q x ≡ Cold → bound_excess b w q x ≡ 0
   unfolding bound_excess
   cold-excess h = omega (arith, cold-within h)
 
 -- the same of the broker of an id
 module _ (b : Bounds) (w q k : ℕ) where
+  -- a first broker of the id is the one
   heat-hit : (x : Broker) (xs : List Broker) → (x.id == k) ≡ true → heat_at_id (bound_heat b w q) (x ∷ xs) k ≡ bound_heat b w q x
   heat-hit x xs h = rw h refl
 
+  -- a first broker of another id is passed over
   heat-miss : (x : Broker) (xs : List Broker) → (x.id == k) ≡ false → heat_at_id (bound_heat b w q) (x ∷ xs) k ≡ heat_at_id (bound_heat b w q) xs k
   heat-miss x xs h = rw h refl
 
+  -- a cold broker has no excess
   pub cold-at : (xs : List Broker) → heat_at_id (bound_heat b w q) xs k ≡ Cold → at_id (bound_excess b w q) xs k ≡ 0
   cold-at [] h = refl
   cold-at (x ∷ xs) h = elim (cases_Bool (x.id == k)) as (λ _. at_id (bound_excess b w q) (x ∷ xs) k ≡ 0) [
@@ -75,6 +74,7 @@ module _ (b : Bounds) (w q k : ℕ) where
     | inr f ↦ rw f (cold-at xs (sym (heat-miss x xs f) ∙ h))
   ]
 
+  -- a broker that isn't below its bound gains nothing by more
   pub more-at : (q' : ℕ) (xs : List Broker) → (heat_at_id (bound_heat b w q) xs k ≡ Below → ⊥) → q ≤ q' → at_id (bound_excess b w q) xs k ≤ at_id (bound_excess b w q') xs k
   more-at q' [] h l = omega arith
   more-at q' (x ∷ xs) h l = elim (cases_Bool (x.id == k)) as (λ _. at_id (bound_excess b w q) (x ∷ xs) k ≤ at_id (bound_excess b w q') (x ∷ xs) k) [
@@ -82,6 +82,7 @@ module _ (b : Bounds) (w q k : ℕ) where
     | inr f ↦ rw f (more-at q' xs (λ e. h (heat-miss x xs f ∙ e)) l)
   ]
 
+  -- and one that isn't above it nothing by less
   pub less-at : (q' : ℕ) (xs : List Broker) → (heat_at_id (bound_heat b w q) xs k ≡ Above → ⊥) → q' ≤ q → at_id (bound_excess b w q) xs k ≤ at_id (bound_excess b w q') xs k
   less-at q' [] h l = omega arith
   less-at q' (x ∷ xs) h l = elim (cases_Bool (x.id == k)) as (λ _. at_id (bound_excess b w q) (x ∷ xs) k ≤ at_id (bound_excess b w q') (x ∷ xs) k) [

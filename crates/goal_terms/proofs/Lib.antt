@@ -5,10 +5,14 @@ pub mod CaseLemmas
 pub mod HeatLemmas
 pub mod LoadLemmas
 pub mod LoopLemmas
-pub mod MadeLemmas
 pub mod PairLemmas
 pub mod PartitionGoals
 pub mod PartitionHeat
+pub mod ReadingLemmas
 pub mod SideLemmas
+pub mod TopicGoalLemmas
+pub mod TopicLemmas
+pub mod TopicList
 pub mod TotalLemmas
 pub mod TradeLemmas
+pub mod UnitSums

@@ -5,6 +5,7 @@ use Rattle.plan_terms.specs.Cluster.{Cluster, Lists, list_of}
 use Rattle.plan_terms.specs.Load.{sum_parts, list_load, load}
 use Rattle.plan_terms.specs.declared.cluster.Part.{Part}
 
+-- a sum over the partitions after one list changed
 pub sum_parts-set : (f : Part → List ℕ → ℕ) (ps : List Part) (lists : Lists) (p : ℕ) (d : Part) (list : List ℕ) → length lists ≡ length ps → p < length lists
     → sum_parts f ps (set lists p list) + f (get_or ps p d) (list_of lists p) ≡ sum_parts f ps lists + f (get_or ps p d) list
 sum_parts-set f [] [] p d list e l = absurd (omega arith)

@@ -26,5 +26,6 @@ demoted_first-le c (x ∷ xs) = one (some_broker (λ y. is_demoted y.state) c x)
 pub evacuation-fits_120_bits : (c : Cluster) (lists : Lists) → length c.parts ≤ 10000 → Belongs c lists → measure (evacuation_goal c) lists < 2 ^ 120
 evacuation-fits_120_bits c lists few belongs = per_partition-fits_120_bits true (lost_members c) c lists belongs few (lost_members-le c)
 
+-- and so is that of leaders that are not to lead
 pub demotion-fits_120_bits : (c : Cluster) (lists : Lists) → length c.parts ≤ 10000 → Belongs c lists → measure (demotion_goal c) lists < 2 ^ 120
 demotion-fits_120_bits c lists few belongs = per_partition-fits_120_bits false (demoted_first c) c lists belongs few (demoted_first-le c)

@@ -1,6 +1,6 @@
 -- What all brokers carry together is the sum of what each carries.
-use Rattle.std.specs.Prelude.{if◌then◌else◌, ◌==◌, not, cond, find, is_some, map}
-use Rattle.std.proofs.Common.{◌≡◌, ℕ, ◌+◌, ◌*◌, ◌<◌, Bool, true, false, List, [], ◌∷◌, length, zero, suc, refl, ap, ◌∙◌, sym, arith, inl, inr, eq-eqb}
+use Rattle.std.specs.Prelude.{if◌then◌else◌, ◌==◌, not, cond, find, is_some}
+use Rattle.std.proofs.Common.{◌≡◌, ℕ, ◌+◌, ◌*◌, Bool, true, false, List, [], ◌∷◌, length, suc, refl, ap, ◌∙◌, sym, arith, inl, inr, eq-eqb}
 use Rattle.std.specs.List.{All, list_all, sum_by, count_by}
 use Rattle.std.proofs.lemmas.Bool.{cases_Bool, cases_eq, ne_eqb, and_parts, or_left, or_right, false≢true, not-true, or_parts}
 use Rattle.std.proofs.lemmas.List.Sums.{sum_by-cons}
@@ -37,21 +37,26 @@ added-zero (x ∷ xs) = omega (arith, added-zero xs)
 
 -- v for the broker of the id
 module _ (k v : ℕ) where
+  -- v for the one broker, 0 for all others
   abbrev owned : Broker → ℕ
   owned x = if k == x.id then v else 0
 
+  -- another broker has nothing
   owned-miss : (x : Broker) → (k ≡ x.id → ⊥) → owned x ≡ 0
   owned-miss x ne = rw (ne_eqb k x.id ne) refl
 
+  -- the one has v
   owned-hit : (x : Broker) → k ≡ x.id → owned x ≡ v
   owned-hit x e = rw (eq-eqb k x.id e) refl
 
+  -- where no broker has the id, there is nothing in all
   added-none : (xs : List Broker) → has (ids_of xs) k ≡ false → added owned xs ≡ 0
   added-none [] h = refl
   added-none (x ∷ xs) h =
       let none = or_parts (x.id == k) (has (ids_of xs) k) h in
       omega (arith, owned-miss x (λ e. false≢true (sym none.0 ∙ eq-eqb x.id k (sym e))), added-none xs none.1)
 
+  -- where one has it, there is v in all
   added-owner : (xs : List Broker) → distinct_ids xs ≡ true → has (ids_of xs) k ≡ true → added owned xs ≡ v
   added-owner [] d h = absurd (false≢true h)
   added-owner (x ∷ xs) d h =

@@ -1,10 +1,10 @@
 -- What is proved of goals over brokers. Each law is the contract of a function in `src/laws.rt`.
-use Rattle.std.specs.Prelude.{◌≡◌, ℕ, Bool, ◌^◌, ◌+◌, ◌-◌, ◌*◌, ◌/◌, ◌<◌, ◌≤◌, ◌↔◌, IsTrue, List, length, slice_index}
+use Rattle.std.specs.Prelude.{◌≡◌, ℕ, Bool, ◌^◌, ◌+◌, ◌-◌, ◌*◌, ◌/◌, ◌<◌, ◌≤◌, ◌↔◌, IsTrue, List, [], length, get_or, slice_index}
 use Rattle.std.specs.List.{All, sum_by}
 use Rattle.plan_terms.specs.Belongs.{Belongs}
 use Rattle.plan_terms.specs.Cluster.{Cluster, Lists}
 use Rattle.plan_terms.specs.Effect.{after}
-use Rattle.plan_terms.specs.Faults.{IsCase}
+use Rattle.plan_terms.specs.Faults.{IsCase, topics}
 use Rattle.plan_terms.specs.Fits.{fits}
 use Rattle.plan_terms.specs.Fraction.{Fraction, IsRatio, over}
 use Rattle.plan_terms.specs.Goal.{Accepts, Lessens, measure, per_partition}
@@ -12,12 +12,13 @@ use Rattle.plan_terms.specs.Load.{count, leaders, load, potential_out, leader_in
 use Rattle.plan_terms.specs.declared.actions.Action.{Action}
 use Rattle.plan_terms.specs.declared.cluster.Broker.{Broker}
 use Rattle.plan_terms.specs.declared.cluster.Part.{Part}
-use Rattle.goal_terms.specs.Bands.{whole_cap, low_of, rounded_up, at_most, within_capacity, even, near_use, below_use}
+use Rattle.goal_terms.specs.Bands.{units_of, whole_cap, low_of, rounded_up, at_most, within_capacity, even, near_use, below_use}
 use Rattle.goal_terms.specs.Heats.{broker_heat, partition_heat}
 use Rattle.goal_terms.specs.Limits.{Limits, SmallLoads, SmallWeights, SmallBounds}
 use Rattle.goal_terms.specs.Pairs.{ColdPairs, IdleTrades}
 use Rattle.goal_terms.specs.Partitions.{evacuation_goal, demotion_goal}
 use Rattle.goal_terms.specs.PerBroker.{Bounds, bound_excess, per_broker}
+use Rattle.goal_terms.specs.PerTopic.{per_topic, first_topic, second_topic, topic_heat}
 use Rattle.goal_terms.specs.Quantity.{Weights, quantity, total, trade, Trades, replica_weights, leader_weights, load_weights, potential_out_weights, leader_in_weights, topic_weights}
 use Rattle.goal_terms.specs.Sides.{sides}
 
@@ -119,3 +120,29 @@ pub record ExcessesInNumbers : Type 0 where
       ≡ (q * t * ratio.den - ratio.num * all * slice_index x.cap r) + (low_of ratio * all * slice_index x.cap r - q * t * ratio.den)
   pub below : (ratio : Fraction) (r t all q : ℕ) (x : Broker)
       → bound_excess (below_use ratio r t) all q x ≡ q * t * ratio.den - ratio.num * all * slice_index x.cap r
+
+-- unit i * n + u of a goal over topics and brokers, of which n aren't lost, is the i-th topic's at the u-th of them
+abbrev pub TopicsComeFirst : Type 0
+TopicsComeFirst = (hard : Bool) (b : Bounds) (c : Cluster) (lists : Lists) (i u : ℕ) → i < length (topics c.parts) → u < units_of c
+    → (per_topic hard b c).excess lists (i * units_of c + u) ≡ (per_broker hard (topic_weights (get_or (topics c.parts) i [])) b c).excess lists u
+
+-- the measure of a goal over topics and brokers is the sum of those of its topics
+abbrev pub TopicsAddUp : Type 0
+TopicsAddUp = (hard : Bool) (b : Bounds) (c : Cluster) (lists : Lists)
+    → measure (per_topic hard b c) lists ≡ sum_by (λ t. measure (per_broker hard (topic_weights t) b c) lists) (topics c.parts)
+
+-- a goal over topics and brokers accepts an action where the goals for the topics that it touches do
+abbrev pub TouchedTopicsAccept : Type 0
+TouchedTopicsAccept = (hard : Bool) (b : Bounds) (c : Cluster) (lists : Lists) (a : Action) → IsCase c → Belongs c lists → IsTrue (fits lists a)
+    → (Accepts (per_broker hard (topic_weights (first_topic c.parts a)) b c) lists a × Accepts (per_broker hard (topic_weights (second_topic c.parts a)) b c) lists a)
+    ↔ Accepts (per_topic hard b c) lists a
+
+-- an action of two cold brokers lessens no goal over topics and brokers
+abbrev pub ColdTopicsLessenNothing : Type 0
+ColdTopicsLessenNothing = (hard : Bool) (b : Bounds) (c : Cluster) (lists : Lists) → IsCase c → Belongs c lists
+    → ColdPairs (per_topic hard b c) (topic_heat (topics c.parts) b c lists) lists
+
+-- the measure of the goal that each topic is spread evenly is below 2^120
+abbrev pub TopicMeasuresAreSmall : Type 0
+TopicMeasuresAreSmall = (hard : Bool) (ratio : Fraction) (c : Cluster) (lists : Lists) → IsRatio ratio.num ratio.den → IsCase c → Belongs c lists
+    → measure (per_topic hard (even ratio (units_of c)) c) lists < 2 ^ 120

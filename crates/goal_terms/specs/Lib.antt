@@ -6,5 +6,6 @@ pub mod Limits
 pub mod Pairs
 pub mod Partitions
 pub mod PerBroker
+pub mod PerTopic
 pub mod Quantity
 pub mod Sides

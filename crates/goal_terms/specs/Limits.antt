@@ -2,6 +2,7 @@
 use Rattle.std.specs.Prelude.{◌≡◌, ℕ, ◌^◌, ◌<◌, ◌≤◌, true, length, slice_index}
 use Rattle.std.specs.List.{All}
 use Rattle.plan_terms.specs.Cluster.{Cluster}
+use Rattle.plan_terms.specs.Faults.{topics}
 use Rattle.plan_terms.specs.declared.cluster.Part.{Part}
 use Rattle.plan_terms.specs.declared.cluster.Broker.{Broker}
 use Rattle.goal_terms.specs.PerBroker.{Bounds, distinct_ids}
@@ -16,9 +17,10 @@ pub record SmallLoads (p : Part) : Type 0 where
 pub record SmallCap (x : Broker) : Type 0 where
   pub each : (r : ℕ) → slice_index x.cap r < 1099511627776
 
--- at most 200 brokers and 10,000 partitions, small loads and capacities, and no broker twice
+-- at most 200 brokers, 1,000 topics and 10,000 partitions, small loads and capacities, and no broker twice
 pub record Limits (c : Cluster) : Type 0 where
   pub few_brokers : length c.brokers ≤ 200
+  pub few_topics : length (topics c.parts) ≤ 1000
   pub few_parts : length c.parts ≤ 10000
   pub loads : All SmallLoads c.parts
   pub caps : All SmallCap c.brokers

@@ -9,8 +9,9 @@ ghost use Rattle.goal_terms.specs.Partitions.{lost_members, evacuation_goal, dem
 ghost use Rattle.goal_terms.specs.declared.heat.Heat.TheVariants as heat;
 ghost use Rattle.plan_terms.specs.declared.actions.Action.{Action};
 ghost use Rattle.goal_terms.specs.PerBroker.{per_broker};
+ghost use Rattle.goal_terms.specs.PerTopic.{per_topic};
 ghost use Rattle.goal_terms.specs.Quantity.{trade, replica_weights, leader_weights, load_weights, potential_out_weights, leader_in_weights};
-ghost use Rattle.goal_terms.specs.Laws.{CasesAreLimited, ActionsTrade, TotalsStay, QuantitiesAreSmall, MeasuresAreSmall, WeightsAreSmall, BoundsAreSmall, PartitionMeasuresAreSmall, TwoBrokersAccept, TwoBrokersLessen, ColdBrokersLessenNothing, ColdMembersLessenNothing, IdleTradesLessenNothing, QuantitiesAreSums, TotalsAreSums, ExcessesInNumbers};
+ghost use Rattle.goal_terms.specs.Laws.{CasesAreLimited, ActionsTrade, TotalsStay, QuantitiesAreSmall, MeasuresAreSmall, WeightsAreSmall, BoundsAreSmall, PartitionMeasuresAreSmall, TwoBrokersAccept, TwoBrokersLessen, ColdBrokersLessenNothing, ColdMembersLessenNothing, IdleTradesLessenNothing, QuantitiesAreSums, TotalsAreSums, ExcessesInNumbers, TopicsComeFirst, TopicsAddUp, TouchedTopicsAccept, ColdTopicsLessenNothing, TopicMeasuresAreSmall};
 
 /// Brokers and partitions without a fault are within the limits.
 pub fn cases_are_limited()
@@ -93,6 +94,31 @@ pub fn excesses_in_numbers()
     ensures { ExcessesInNumbers }
 {}
 
+/// The units of a goal over topics and brokers go by topic first.
+pub fn topics_come_first()
+    ensures { TopicsComeFirst }
+{}
+
+/// The measure of a goal over topics and brokers is the sum of those of its topics.
+pub fn topics_add_up()
+    ensures { TopicsAddUp }
+{}
+
+/// A goal over topics and brokers accepts an action exactly where the goals for the topics that it touches do.
+pub fn touched_topics_accept()
+    ensures { TouchedTopicsAccept }
+{}
+
+/// An action of two brokers, neither of which has an excess for some topic, lessens no goal over topics and brokers.
+pub fn cold_topics_lessen_nothing()
+    ensures { ColdTopicsLessenNothing }
+{}
+
+/// The measure of the goal that each topic is spread evenly is below 2^120.
+pub fn topic_measures_are_small()
+    ensures { TopicMeasuresAreSmall }
+{}
+
 /// What the definitions compute on small clusters.
 pub fn goals_on_examples()
     // One replica each on three brokers, one of which is lost and is no unit.
@@ -123,6 +149,9 @@ pub fn goals_on_examples()
     // A broker that is not to lead may follow.
     ensures demoted { measure (demotion_goal demoted_broker) ((0 ∷ 1 ∷ []) ∷ []) ≡ 1 }
     ensures followed { measure (demotion_goal demoted_broker) ((1 ∷ 0 ∷ []) ∷ []) ≡ 0 }
+
+    // The only topic's three replicas, on one of two brokers as before.
+    ensures topics { measure (per_topic false (even (record { num = 1; den = 1 }) (units_of replaced_broker)) replaced_broker) ((1 ∷ []) ∷ (1 ∷ []) ∷ (1 ∷ []) ∷ []) ≡ 2 }
 
     // A broker is above or below its bounds, or cold, as one that is lost.
     ensures above { broker_heat replica_weights (at_most 0) replaced_broker one_each 1 ≡ heat.Above }

@@ -1,4 +1,4 @@
-use Rattle.std.proofs.Common.{refl, arith}
+use Rattle.std.proofs.Common.{arith}
 use Rattle.goal_terms.specs.PerBroker.{bound_excess}
 use Rattle.goal_terms.proofs.laws.excesses_in_numbers.Goals as goal
 

@@ -1,4 +1,4 @@
-use Rattle.goal_terms.proofs.MadeLemmas.{quantity-replicas, quantity-leaders, quantity-load, quantity-potential_out, quantity-leader_in, quantity-topic}
+use Rattle.goal_terms.proofs.ReadingLemmas.{quantity-replicas, quantity-leaders, quantity-load, quantity-potential_out, quantity-leader_in, quantity-topic}
 use Rattle.goal_terms.proofs.laws.quantities_are_sums.Goals as goal
 
 pub returns : goal.returns

@@ -1,5 +1,5 @@
 use Rattle.std.proofs.Common.{[]}
-use Rattle.goal_terms.proofs.MadeLemmas.{total-replicas, total-leaders}
+use Rattle.goal_terms.proofs.ReadingLemmas.{total-replicas, total-leaders}
 use Rattle.goal_terms.proofs.TotalLemmas.{total-sum}
 use Rattle.goal_terms.proofs.laws.totals_are_sums.Goals as goal
 

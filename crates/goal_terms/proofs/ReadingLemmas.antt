@@ -1,40 +1,20 @@
--- What goals over brokers keep of their case, one broker or partition after another.
-use Rattle.std.specs.Prelude.{if◌then◌else◌, not, ◌==◌, ◌&&◌, ◌*◌, cond, slice_index, bytes_eq}
-use Rattle.std.proofs.Common.{◌≡◌, ℕ, ◌+◌, ◌<◌, ◌≤◌, Bool, true, false, List, [], ◌∷◌, ◌++◌, length, get_or, drop, zero, suc, refl, ap, ◌∙◌, sym, arith, inl, inr, eq-eqb, add-one, drop-cons, append_assoc}
-use Rattle.std.specs.List.{sum_by, count_by, filter}
-use Rattle.std.proofs.lemmas.Bool.{cases_Bool, eqb-true, ne_eqb, cases_eq}
+-- Quantities are the counts and loads that they stand for.
+use Rattle.std.specs.Prelude.{if◌then◌else◌, ◌==◌, ◌*◌, cond, slice_index, bytes_eq}
+use Rattle.std.proofs.Common.{◌≡◌, ℕ, ◌<◌, Bool, true, false, List, [], ◌∷◌, length, suc, refl, ◌∙◌, arith, inl, inr}
+use Rattle.std.specs.List.{sum_by, count_by}
+use Rattle.std.proofs.lemmas.Bool.{cases_Bool}
 use Rattle.std.proofs.lemmas.List.Sums.{sum_by-cons}
 use Rattle.plan_terms.specs.Cluster.{Cluster, Lists, list_of, leads}
-use Rattle.plan_terms.specs.States.{is_dead}
 use Rattle.plan_terms.specs.Load.{count, leaders, load, potential_out, leader_in, topic_count, sum_parts, list_load}
-use Rattle.goal_terms.specs.Quantity.{Weights, quantity, total, whole, replica_weights, leader_weights, load_weights, potential_out_weights, leader_in_weights, topic_weights}
-use Rattle.goal_terms.specs.PerBroker.{is_unit, unit_brokers}
+use Rattle.goal_terms.specs.Quantity.{quantity, total, replica_weights, leader_weights, load_weights, potential_out_weights, leader_in_weights, topic_weights}
 use Rattle.plan_terms.specs.declared.cluster.Part.{Part}
-use Rattle.plan_terms.specs.declared.cluster.Broker.{Broker}
-
--- the sum over the units, from the i-th broker on
-units-sum-suc : (f : Broker → ℕ) (xs : List Broker) (i : ℕ) (d : Broker) → i < length xs
-    → sum_by f (unit_brokers (drop i xs)) ≡ (if is_unit (get_or xs i d) then f (get_or xs i d) else 0) + sum_by f (unit_brokers (drop (suc i) xs))
-units-sum-suc f xs i d l = rw (drop-cons xs i d l) (head (get_or xs i d) (drop (suc i) xs)) where
-  head : (x : Broker) (ys : List Broker) → sum_by f (unit_brokers (x ∷ ys)) ≡ (if is_unit x then f x else 0) + sum_by f (unit_brokers ys)
-  head x ys = elim (cases_Bool (is_unit x)) as (λ _. sum_by f (cond (is_unit x) (x ∷ unit_brokers ys) (unit_brokers ys)) ≡ (if is_unit x then f x else 0) + sum_by f (unit_brokers ys)) [
-    | inl e ↦ rw e (sum_by-cons f x (unit_brokers ys))
-    | inr e ↦ rw e (omega arith)
-  ]
-
-pub units-sum-unit : (f : Broker → ℕ) (xs : List Broker) (i : ℕ) (d : Broker) → i < length xs → is_dead (get_or xs i d).state ≡ false
-    → sum_by f (unit_brokers (drop i xs)) ≡ f (get_or xs i d) + sum_by f (unit_brokers (drop (i + 1) xs))
-units-sum-unit f xs i d l h = rw add-one (rw h at (units-sum-suc f xs i d l))
-
-pub units-sum-lost : (f : Broker → ℕ) (xs : List Broker) (i : ℕ) (d : Broker) → i < length xs → is_dead (get_or xs i d).state ≡ true
-    → sum_by f (unit_brokers (drop i xs)) ≡ sum_by f (unit_brokers (drop (i + 1) xs))
-units-sum-lost f xs i d l h = rw add-one (omega (arith, rw h at (units-sum-suc f xs i d l)))
 
 -- the plain readings: a count, the leaders, all replicas, all leaders
 count-list : (b : ℕ) (list : List ℕ) → list_load 1 1 b list ≡ sum_by (λ x. cond (x == b) 1 0) list
 count-list b [] = refl
 count-list b (x ∷ xs) = omega (arith, sum_by-cons (λ y. cond (y == b) 1 0) x xs)
 
+-- replicas are places
 pub quantity-replicas : (ps : List Part) (lists : Lists) (b : ℕ) → length lists ≡ length ps → quantity replica_weights ps b lists ≡ count b lists
 unfolding quantity
 quantity-replicas [] [] b e = refl
@@ -42,10 +22,12 @@ quantity-replicas [] (l ∷ lists) b e = absurd (omega arith)
 quantity-replicas (p ∷ ps) [] b e = absurd (omega arith)
 quantity-replicas (p ∷ ps) (l ∷ lists) b e = omega (arith, count-list b l, quantity-replicas ps lists b (omega arith), sum_by-cons (λ list. sum_by (λ x. cond (x == b) 1 0) list) l lists)
 
+-- a list whose first place counts
 leads-list : (b : ℕ) (list : List ℕ) → list_load 1 0 b list ≡ cond (leads list b) 1 0
 leads-list b [] = refl
 leads-list b (x ∷ xs) = omega arith
 
+-- leaders are first places
 pub quantity-leaders : (ps : List Part) (lists : Lists) (b : ℕ) → length lists ≡ length ps → quantity leader_weights ps b lists ≡ leaders b lists
 unfolding quantity
 quantity-leaders [] [] b e = refl
@@ -53,6 +35,7 @@ quantity-leaders [] (l ∷ lists) b e = absurd (omega arith)
 quantity-leaders (p ∷ ps) [] b e = absurd (omega arith)
 quantity-leaders (p ∷ ps) (l ∷ lists) b e = omega (arith, leads-list b l, quantity-leaders ps lists b (omega arith), sum_by-cons (λ list. cond (leads list b) 1 0) l lists)
 
+-- all replicas are all members
 pub total-replicas : (ps : List Part) (lists : Lists) → length lists ≡ length ps → total replica_weights ps lists ≡ sum_by length lists
 unfolding total
 total-replicas [] [] e = refl
