@@ -1,17 +1,18 @@
--- Which actions cannot lessen a goal over brokers.
-use Rattle.std.specs.Prelude.{◌==◌, nat_lt}
-use Rattle.std.proofs.Common.{◌≡◌, ℕ, ◌+◌, ◌-◌, ◌*◌, ◌≤◌, true, false, Bool, List, [], ◌∷◌, length, refl, ap, ◌∙◌, sym, arith, inl, inr}
-use Rattle.std.proofs.lemmas.Bool.{cases_Bool, ltb-true, ltb-false}
-use Rattle.plan_terms.specs.Cluster.{Cluster, Lists}
+-- What the heat of a broker says, and which actions cannot lessen a goal over brokers.
+use Rattle.std.specs.Prelude.{if◌then◌else◌, ◌==◌, nat_lt}
+use Rattle.std.proofs.Common.{◌≡◌, ℕ, ◌+◌, ◌-◌, ◌*◌, ◌<◌, ◌≤◌, true, false, Bool, List, [], ◌∷◌, length, refl, ap, ◌∙◌, sym, arith, inl, inr}
+use Rattle.std.proofs.lemmas.Bool.{cases_Bool, ltb-true, ltb-false, lt-ltb, le-ltb, or_parts}
+use Rattle.plan_terms.specs.Cluster.{Cluster, Lists, has}
 use Rattle.plan_terms.specs.Goal.{Lessens}
 use Rattle.plan_terms.specs.Fits.{fits}
 use Rattle.goal_terms.specs.Quantity.{Weights, quantity, total, trade}
-use Rattle.goal_terms.specs.PerBroker.{Bounds, bound_excess, unit_brokers, per_broker, at_id, distinct_ids}
+use Rattle.goal_terms.specs.PerBroker.{ids_of, Bounds, bound_excess, unit_brokers, per_broker, at_id, distinct_ids}
 use Rattle.goal_terms.specs.Sides.{excess_with, sides}
 use Rattle.goal_terms.specs.Heats.{bound_heat, heat_at_id, broker_heat}
 use Rattle.goal_terms.proofs.BrokerLemmas.{measure-sides}
 use Rattle.goal_terms.proofs.BoundLemmas.{product-le}
 use Rattle.plan_terms.specs.declared.cluster.Broker.{Broker}
+use Rattle.goal_terms.specs.declared.heat.Heat.{Heat}
 use Rattle.goal_terms.specs.declared.heat.Heat.TheVariants.{Cold, Above, Below}
 use Rattle.plan_terms.specs.declared.actions.Action.{Action}
 
@@ -55,6 +56,55 @@ module _ (b : Bounds) (w q : ℕ) (x : Broker) where
   pub cold-excess : bound_heat b w q x ≡ Cold → bound_excess b w q x ≡ 0
   unfolding bound_excess
   cold-excess h = omega (arith, cold-within h)
+
+-- what the two tests say of one broker, and back
+module _ (b : Bounds) (w q : ℕ) (x : Broker) where
+  -- the heat by the two tests
+  abbrev by_tests : Bool → Bool → Heat
+  by_tests more less = if more then Above else (if less then Below else Cold)
+
+  is_heat : (more less : Bool) → nat_lt (b.upper w x) (q * b.scale) ≡ more → nat_lt (q * b.scale) (b.lower w x) ≡ less → bound_heat b w q x ≡ by_tests more less
+  unfolding bound_heat
+  is_heat more less h i = rw (h, i) refl
+
+  -- without an excess a broker is cold
+  pub excess-cold : bound_excess b w q x ≡ 0 → bound_heat b w q x ≡ Cold
+  unfolding bound_excess
+  excess-cold e = is_heat false false (le-ltb (b.upper w x) (q * b.scale) (omega arith)) (le-ltb (q * b.scale) (b.lower w x) (omega arith))
+
+  -- more than the upper bound is above
+  pub more-above : b.upper w x < q * b.scale → bound_heat b w q x ≡ Above
+  unfolding bound_heat
+  more-above l = rw (lt-ltb _ _ l) refl
+
+  -- no more than that and less than the lower bound is below
+  pub less-below : q * b.scale ≤ b.upper w x → q * b.scale < b.lower w x → bound_heat b w q x ≡ Below
+  less-below h l = is_heat false true (le-ltb (b.upper w x) (q * b.scale) h) (lt-ltb _ _ l)
+
+  -- a broker that is above carries more
+  pub above-more : bound_heat b w q x ≡ Above → b.upper w x < q * b.scale
+  above-more h = elim (cases_Bool (nat_lt (b.upper w x) (q * b.scale))) as (λ _. b.upper w x < q * b.scale) [
+    | inl t ↦ ltb-true _ _ t
+    | inr f ↦ elim (cases_Bool (nat_lt (q * b.scale) (b.lower w x))) as (λ _. b.upper w x < q * b.scale) [
+      | inl t' ↦ let e = sym (is_heat false true f t') ∙ h in absurd cc
+      | inr f' ↦ let e = sym (is_heat false false f f') ∙ h in absurd cc
+    ]
+  ]
+
+  -- and one that is below carries no more and less
+  pub below-less : bound_heat b w q x ≡ Below → (q * b.scale ≤ b.upper w x) × (q * b.scale < b.lower w x)
+  below-less h = elim (cases_Bool (nat_lt (b.upper w x) (q * b.scale))) as (λ _. (q * b.scale ≤ b.upper w x) × (q * b.scale < b.lower w x)) [
+    | inl t ↦ let e = sym (more-above (ltb-true _ _ t)) ∙ h in absurd cc
+    | inr f ↦ elim (cases_Bool (nat_lt (q * b.scale) (b.lower w x))) as (λ _. (q * b.scale ≤ b.upper w x) × (q * b.scale < b.lower w x)) [
+      | inl t' ↦ (ltb-false _ _ f, ltb-true _ _ t')
+      | inr f' ↦ let e = sym (is_heat false false f f') ∙ h in absurd cc
+    ]
+  ]
+
+-- a broker that is none of them is cold
+pub absent-cold : (f : Broker → Heat) (xs : List Broker) (k : ℕ) → has (ids_of xs) k ≡ false → heat_at_id f xs k ≡ Cold
+absent-cold f [] k h = refl
+absent-cold f (x ∷ xs) k h = let none = or_parts (x.id == k) (has (ids_of xs) k) h in rw none.0 (absent-cold f xs k none.1)
 
 -- the same of the broker of an id
 module _ (b : Bounds) (w q k : ℕ) where

@@ -1,8 +1,8 @@
 -- What is proved of goals over brokers. Each law is the contract of a function in `src/laws.rt`.
-use Rattle.std.specs.Prelude.{◌≡◌, ℕ, Bool, ◌^◌, ◌+◌, ◌-◌, ◌*◌, ◌/◌, ◌<◌, ◌≤◌, ◌↔◌, IsTrue, List, [], length, get_or, slice_index}
+use Rattle.std.specs.Prelude.{◌≡◌, ℕ, Bool, false, ◌^◌, ◌+◌, ◌-◌, ◌*◌, ◌/◌, ◌<◌, ◌≤◌, ◌↔◌, IsTrue, List, [], length, get_or, slice_index}
 use Rattle.std.specs.List.{All, sum_by}
 use Rattle.plan_terms.specs.Belongs.{Belongs}
-use Rattle.plan_terms.specs.Cluster.{Cluster, Lists}
+use Rattle.plan_terms.specs.Cluster.{Cluster, Lists, has}
 use Rattle.plan_terms.specs.Effect.{after}
 use Rattle.plan_terms.specs.Faults.{IsCase, topics}
 use Rattle.plan_terms.specs.Fits.{fits}
@@ -13,14 +13,15 @@ use Rattle.plan_terms.specs.declared.actions.Action.{Action}
 use Rattle.plan_terms.specs.declared.cluster.Broker.{Broker}
 use Rattle.plan_terms.specs.declared.cluster.Part.{Part}
 use Rattle.goal_terms.specs.Bands.{units_of, whole_cap, low_of, rounded_up, at_most, within_capacity, even, near_use, below_use}
-use Rattle.goal_terms.specs.Heats.{broker_heat, partition_heat}
+use Rattle.goal_terms.specs.Heats.{bound_heat, broker_heat, partition_heat}
 use Rattle.goal_terms.specs.Limits.{Limits, SmallLoads, SmallWeights, SmallBounds}
 use Rattle.goal_terms.specs.Pairs.{ColdPairs, IdleTrades}
 use Rattle.goal_terms.specs.Partitions.{evacuation_goal, demotion_goal}
-use Rattle.goal_terms.specs.PerBroker.{Bounds, bound_excess, per_broker}
+use Rattle.goal_terms.specs.PerBroker.{Bounds, ids_of, unit_brokers, bound_excess, per_broker}
 use Rattle.goal_terms.specs.PerTopic.{per_topic, first_topic, second_topic, topic_heat}
 use Rattle.goal_terms.specs.Quantity.{Weights, quantity, total, trade, Trades, replica_weights, leader_weights, load_weights, potential_out_weights, leader_in_weights, topic_weights}
 use Rattle.goal_terms.specs.Sides.{sides}
+use Rattle.goal_terms.specs.declared.heat.Heat.TheVariants as heat
 
 -- a case is within the limits
 abbrev pub CasesAreLimited : Type 0
@@ -78,6 +79,14 @@ abbrev pub TwoBrokersLessen : Type 0
 TwoBrokersLessen = (hard : Bool) (w : Weights) (b : Bounds) (c : Cluster) (lists : Lists) (a : Action) → IsCase c → Belongs c lists → IsTrue (fits lists a)
     → ((sides w b c lists a).giver_after + (sides w b c lists a).taker_after < (sides w b c lists a).giver + (sides w b c lists a).taker)
     ↔ Lessens (per_broker hard w b c) lists a
+
+-- a broker is cold where it has no excess, above where it carries more than its upper bound, and below where it carries no more
+-- than that and less than its lower bound; one that is lost or unknown is cold
+pub record HeatsTell : Type 0 where
+  pub cold : (b : Bounds) (all q : ℕ) (x : Broker) → (bound_heat b all q x ≡ heat.Cold) ↔ (bound_excess b all q x ≡ 0)
+  pub above : (b : Bounds) (all q : ℕ) (x : Broker) → (bound_heat b all q x ≡ heat.Above) ↔ (b.upper all x < q * b.scale)
+  pub below : (b : Bounds) (all q : ℕ) (x : Broker) → (bound_heat b all q x ≡ heat.Below) ↔ ((q * b.scale ≤ b.upper all x) × (q * b.scale < b.lower all x))
+  pub lost : (w : Weights) (b : Bounds) (c : Cluster) (lists : Lists) (k : ℕ) → has (ids_of (unit_brokers c.brokers)) k ≡ false → broker_heat w b c lists k ≡ heat.Cold
 
 -- an action of two cold brokers lessens no goal over brokers
 abbrev pub ColdBrokersLessenNothing : Type 0

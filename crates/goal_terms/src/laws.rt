@@ -1,6 +1,8 @@
 // Laws of the definitions in `specs/`, each the contract of a function that does nothing.
 ghost use Rattle.std.specs.Prelude.{◌≡◌, true, false, [], ◌∷◌};
 ghost use Rattle.plan_terms.specs.Examples.{shared_rack, replaced_broker, one_each};
+ghost use Rattle.plan_terms.specs.Belongs.{Belongs};
+ghost use Rattle.plan_terms.specs.Faults.{IsCase};
 ghost use Rattle.plan_terms.specs.Goal.{measure};
 ghost use Rattle.goal_terms.specs.Bands.{at_most, units_of, whole_cap, within_capacity, even, near_use, below_use};
 ghost use Rattle.goal_terms.specs.Examples.{demoted_broker};
@@ -11,7 +13,7 @@ ghost use Rattle.plan_terms.specs.declared.actions.Action.{Action};
 ghost use Rattle.goal_terms.specs.PerBroker.{per_broker};
 ghost use Rattle.goal_terms.specs.PerTopic.{per_topic};
 ghost use Rattle.goal_terms.specs.Quantity.{trade, replica_weights, leader_weights, load_weights, potential_out_weights, leader_in_weights};
-ghost use Rattle.goal_terms.specs.Laws.{CasesAreLimited, ActionsTrade, TotalsStay, QuantitiesAreSmall, MeasuresAreSmall, WeightsAreSmall, BoundsAreSmall, PartitionMeasuresAreSmall, TwoBrokersAccept, TwoBrokersLessen, ColdBrokersLessenNothing, ColdMembersLessenNothing, IdleTradesLessenNothing, QuantitiesAreSums, TotalsAreSums, ExcessesInNumbers, TopicsComeFirst, TopicsAddUp, TouchedTopicsAccept, ColdTopicsLessenNothing, TopicMeasuresAreSmall};
+ghost use Rattle.goal_terms.specs.Laws.{CasesAreLimited, ActionsTrade, TotalsStay, QuantitiesAreSmall, MeasuresAreSmall, WeightsAreSmall, BoundsAreSmall, PartitionMeasuresAreSmall, TwoBrokersAccept, TwoBrokersLessen, HeatsTell, ColdBrokersLessenNothing, ColdMembersLessenNothing, IdleTradesLessenNothing, QuantitiesAreSums, TotalsAreSums, ExcessesInNumbers, TopicsComeFirst, TopicsAddUp, TouchedTopicsAccept, ColdTopicsLessenNothing, TopicMeasuresAreSmall};
 
 /// Brokers and partitions without a fault are within the limits.
 pub fn cases_are_limited()
@@ -61,6 +63,11 @@ pub fn two_brokers_accept()
 /// An action lessens a goal over brokers exactly where its two brokers' excesses together fall.
 pub fn two_brokers_lessen()
     ensures { TwoBrokersLessen }
+{}
+
+/// What the heat of a broker says of its quantity.
+pub fn heats_tell()
+    ensures { HeatsTell }
 {}
 
 /// An action of two cold brokers lessens no goal over brokers.
@@ -121,6 +128,10 @@ pub fn topic_measures_are_small()
 
 /// What the definitions compute on small clusters.
 pub fn goals_on_examples()
+    // The cluster and its lists are such as the laws speak of.
+    ensures case { IsCase shared_rack }
+    ensures lists { Belongs shared_rack ((0 ∷ 1 ∷ []) ∷ []) }
+
     // One replica each on three brokers, one of which is lost and is no unit.
     ensures most_none { measure (per_broker true replica_weights (at_most 0) replaced_broker) one_each ≡ 2 }
     ensures most_one { measure (per_broker true replica_weights (at_most 1) replaced_broker) one_each ≡ 0 }
