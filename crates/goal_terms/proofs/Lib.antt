@@ -2,6 +2,7 @@ pub mod BandLemmas
 pub mod BoundLemmas
 pub mod BrokerLemmas
 pub mod CaseLemmas
+pub mod GoalTable
 pub mod HeatLemmas
 pub mod LoadLemmas
 pub mod LoopLemmas

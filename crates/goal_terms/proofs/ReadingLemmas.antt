@@ -52,6 +52,15 @@ total-leaders (p ∷ ps) [] e some = absurd (omega arith)
 total-leaders (p ∷ ps) ([] ∷ lists) e some = let h = some 0 (omega arith) in absurd (omega arith)
 total-leaders (p ∷ ps) ((x ∷ l) ∷ lists) e some = omega (arith, total-leaders ps lists (omega arith) (λ k m. some (suc k) (omega arith)))
 
+-- and what all of them receive from clients is that of each partition's leader
+pub total-leader_in : (ps : List Part) (lists : Lists) → length lists ≡ length ps → ((k : ℕ) → k < length lists → 0 < length (list_of lists k)) → total leader_in_weights ps lists ≡ sum_by (λ (p : Part). slice_index p.loads.lead 1) ps
+unfolding total
+total-leader_in [] lists e some = refl
+total-leader_in (p ∷ ps) [] e some = absurd (omega arith)
+total-leader_in (p ∷ ps) ([] ∷ lists) e some = let h = some 0 (omega arith) in absurd (omega arith)
+total-leader_in (p ∷ ps) ((x ∷ l) ∷ lists) e some =
+    omega (arith, sum_by-cons (λ (q : Part). slice_index q.loads.lead 1) p ps, total-leader_in ps lists (omega arith) (λ k m. some (suc k) (omega arith)))
+
 -- f and g agree on each partition and its list
 sum_parts-same : (f g : Part → List ℕ → ℕ) → ((p : Part) (list : List ℕ) → f p list ≡ g p list) → (ps : List Part) (lists : Lists) → sum_parts f ps lists ≡ sum_parts g ps lists
 sum_parts-same f g h [] lists = refl

@@ -13,6 +13,7 @@ use Rattle.plan_terms.specs.declared.actions.Action.{Action}
 use Rattle.plan_terms.specs.declared.cluster.Broker.{Broker}
 use Rattle.plan_terms.specs.declared.cluster.Part.{Part}
 use Rattle.goal_terms.specs.Bands.{units_of, whole_cap, low_of, rounded_up, at_most, within_capacity, even, near_use, below_use}
+use Rattle.goal_terms.specs.Goals.{AreRatios, replica_capacity_goal, capacity_goal, replica_distribution_goal, potential_out_goal, usage_distribution_goal, topic_distribution_goal, leader_distribution_goal, leader_in_goal}
 use Rattle.goal_terms.specs.Heats.{bound_heat, broker_heat, partition_heat}
 use Rattle.goal_terms.specs.Limits.{Limits, SmallLoads, SmallWeights, SmallBounds}
 use Rattle.goal_terms.specs.Pairs.{ColdPairs, IdleTrades}
@@ -112,11 +113,13 @@ pub record QuantitiesAreSums : Type 0 where
   pub inbound : (c : Cluster) (lists : Lists) (b : ℕ) → quantity leader_in_weights c.parts b lists ≡ leader_in c b lists
   pub topic : (c : Cluster) (lists : Lists) (t : List ℕ) (b : ℕ) → quantity (topic_weights t) c.parts b lists ≡ topic_count c t b lists
 
--- what all brokers carry together is what each carries, added up: all members of lists, one leader for each partition
+-- what all brokers carry together is what each carries, added up: all members of lists, one leader for each partition, each
+-- partition's leader's NW_IN
 pub record TotalsAreSums : Type 0 where
   pub together : (w : Weights) (c : Cluster) (lists : Lists) → IsCase c → Belongs c lists → sum_by (λ (x : Broker). quantity w c.parts x.id lists) c.brokers ≡ total w c.parts lists
   pub replicas : (c : Cluster) (lists : Lists) → Belongs c lists → total replica_weights c.parts lists ≡ sum_by length lists
   pub leads : (c : Cluster) (lists : Lists) → Belongs c lists → total leader_weights c.parts lists ≡ length c.parts
+  pub inbound : (c : Cluster) (lists : Lists) → Belongs c lists → total leader_in_weights c.parts lists ≡ sum_by (λ (p : Part). slice_index p.loads.lead 1) c.parts
 
 -- the excess of a broker that carries q, where all carry `all`, in numbers
 pub record ExcessesInNumbers : Type 0 where
@@ -155,3 +158,18 @@ ColdTopicsLessenNothing = (hard : Bool) (b : Bounds) (c : Cluster) (lists : List
 abbrev pub TopicMeasuresAreSmall : Type 0
 TopicMeasuresAreSmall = (hard : Bool) (ratio : Fraction) (c : Cluster) (lists : Lists) → IsRatio ratio.num ratio.den → IsCase c → Belongs c lists
     → measure (per_topic hard (even ratio (units_of c)) c) lists < 2 ^ 120
+
+-- the measure of each goal over brokers is below 2^120
+pub record GoalMeasures (c : Cluster) (lists : Lists) : Type 0 where
+  pub replica_capacity : measure (replica_capacity_goal c) lists < 2 ^ 120
+  pub capacity : (r : ℕ) → measure (capacity_goal r c) lists < 2 ^ 120
+  pub replica_distribution : measure (replica_distribution_goal c) lists < 2 ^ 120
+  pub potential_out : measure (potential_out_goal c) lists < 2 ^ 120
+  pub usage_distribution : (r : ℕ) → measure (usage_distribution_goal r c) lists < 2 ^ 120
+  pub topic_distribution : measure (topic_distribution_goal c) lists < 2 ^ 120
+  pub leader_distribution : measure (leader_distribution_goal c) lists < 2 ^ 120
+  pub leader_in : measure (leader_in_goal c) lists < 2 ^ 120
+
+-- so it is for every case, its thresholds and the lists that belong to it
+abbrev pub GoalMeasuresAreSmall : Type 0
+GoalMeasuresAreSmall = (c : Cluster) (lists : Lists) → IsCase c → AreRatios c.options → Belongs c lists → GoalMeasures c lists

@@ -1,5 +1,6 @@
 pub mod Bands
 pub mod Examples
+pub mod Goals
 pub mod Heats
 pub mod Laws
 pub mod Limits

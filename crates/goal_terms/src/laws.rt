@@ -13,7 +13,7 @@ ghost use Rattle.plan_terms.specs.declared.actions.Action.{Action};
 ghost use Rattle.goal_terms.specs.PerBroker.{per_broker};
 ghost use Rattle.goal_terms.specs.PerTopic.{per_topic};
 ghost use Rattle.goal_terms.specs.Quantity.{trade, replica_weights, leader_weights, load_weights, potential_out_weights, leader_in_weights};
-ghost use Rattle.goal_terms.specs.Laws.{CasesAreLimited, ActionsTrade, TotalsStay, QuantitiesAreSmall, MeasuresAreSmall, WeightsAreSmall, BoundsAreSmall, PartitionMeasuresAreSmall, TwoBrokersAccept, TwoBrokersLessen, HeatsTell, ColdBrokersLessenNothing, ColdMembersLessenNothing, IdleTradesLessenNothing, QuantitiesAreSums, TotalsAreSums, ExcessesInNumbers, TopicsComeFirst, TopicsAddUp, TouchedTopicsAccept, ColdTopicsLessenNothing, TopicMeasuresAreSmall};
+ghost use Rattle.goal_terms.specs.Laws.{CasesAreLimited, ActionsTrade, TotalsStay, QuantitiesAreSmall, MeasuresAreSmall, WeightsAreSmall, BoundsAreSmall, PartitionMeasuresAreSmall, TwoBrokersAccept, TwoBrokersLessen, HeatsTell, ColdBrokersLessenNothing, ColdMembersLessenNothing, IdleTradesLessenNothing, QuantitiesAreSums, TotalsAreSums, ExcessesInNumbers, TopicsComeFirst, TopicsAddUp, TouchedTopicsAccept, ColdTopicsLessenNothing, TopicMeasuresAreSmall, GoalMeasuresAreSmall};
 
 /// Brokers and partitions without a fault are within the limits.
 pub fn cases_are_limited()
@@ -124,6 +124,11 @@ pub fn cold_topics_lessen_nothing()
 /// The measure of the goal that each topic is spread evenly is below 2^120.
 pub fn topic_measures_are_small()
     ensures { TopicMeasuresAreSmall }
+{}
+
+/// The measures of all goals over brokers are below 2^120.
+pub fn goal_measures_are_small()
+    ensures { GoalMeasuresAreSmall }
 {}
 
 /// What the definitions compute on small clusters.
