@@ -1,0 +1,12 @@
+pub mod Bands
+pub mod Examples
+pub mod Goals
+pub mod Heats
+pub mod Laws
+pub mod Limits
+pub mod Pairs
+pub mod Partitions
+pub mod PerBroker
+pub mod PerTopic
+pub mod Quantity
+pub mod Sides

@@ -1,0 +1,14 @@
+// Where a broker's quantity lies.
+
+/// Where a broker's quantity lies, and so which actions of the broker may help a goal.
+#[derive(Clone, Copy, Debug, PartialEq, Eq)]
+pub enum Heat {
+    /// Nothing of the broker's exceeds the goal.
+    Cold,
+    /// The quantity is greater than its upper bound.
+    Above,
+    /// The quantity is less than its lower bound.
+    Below,
+    /// Something of the broker's exceeds a goal that isn't one over brokers.
+    Other,
+}
