@@ -1,12 +1,11 @@
 -- A change of one member keeps the case.
-use Rattle.std.proofs.Common.{◌≡◌, ◌∙◌, ℕ, ◌<◌, Bool, true, false, List, [], ◌∷◌, length, get_or, set, map, suc, zero, None, refl, sym, ap, arith, ◌||◌, nat_le, nat_lt, slice_index, ◌^◌, eqb}
+use Rattle.std.proofs.Common.{◌≡◌, ◌∙◌, ℕ, ◌<◌, Bool, false, List, [], ◌∷◌, length, get_or, set, map, suc, zero, refl, sym, ap, arith, ◌||◌, nat_le, nat_lt, slice_index, ◌^◌, eqb}
 use Rattle.std.specs.List.{list_any, All}
 use Rattle.std.proofs.lemmas.Bool.{or_from}
 use Rattle.std.proofs.lemmas.Bool.Decides.{nat_tests}
-use Rattle.std.proofs.lemmas.List.{length-map, get_or-map}
+use Rattle.std.proofs.lemmas.List.{length-map}
 use Rattle.std.proofs.lemmas.List.Folds.{list_any_none}
-use Rattle.plan_terms.specs.Cluster.{Cluster}
-use Rattle.plan_terms.specs.Faults.{IsCase, case_fault, broken_limit, broker_repeat, part_repeat, topics, is_heavy, is_large, has_bad_chunks, first_repeat, same_id, same_part, distinct_from}
+use Rattle.plan_terms.specs.Faults.{case_fault, broken_limit, broker_repeat, part_repeat, topics, is_heavy, is_large, has_bad_chunks, first_repeat, same_id, same_part, distinct_from}
 use Rattle.plan_terms.proofs.FaultLemmas.{WithinLimits-faultless}
 use Rattle.plan_terms.specs.declared.cluster.Broker.{Broker}
 use Rattle.plan_terms.specs.declared.cluster.BrokerState.{BrokerState}
@@ -14,9 +13,9 @@ use Rattle.plan_terms.specs.declared.cluster.Loads.{Loads}
 use Rattle.plan_terms.specs.declared.cluster.Options.{Options}
 use Rattle.plan_terms.specs.declared.cluster.Part.{Part}
 use Rattle.load_model.specs.Changed.{with_state, with_loads, with_excluded}
-use Rattle.load_model.specs.Places.{IsIndexed, AreTopicPlaces, StandsAt, topic_of}
+use Rattle.load_model.specs.Places.{IsIndexed, AreTopicPlaces}
 use Rattle.load_model.proofs.Listed.{list_any-map, or_parts}
-use Rattle.load_model.proofs.Repetition.{Key, key, same_key, first_repeat-map}
+use Rattle.load_model.proofs.Repetition.{key, same_key, first_repeat-map}
 
 -- a write of the changed member is the change
 pub set-with_state : (bs : List Broker) (i : ℕ) (b : Broker) (s : BrokerState) → i < length bs → b ≡ get_or bs i b → set bs i (record b { state = s }) ≡ with_state bs i s

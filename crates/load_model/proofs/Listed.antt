@@ -1,5 +1,5 @@
 -- Tests and places in a list of images, and an element by its place.
-use Rattle.std.proofs.Common.{◌≡◌, ◌∙◌, ℕ, ◌<◌, ◌≤◌, ◌+◌, Bool, true, false, cond, eqb, List, [], ◌∷◌, length, get_or, map, suc, zero, Option, Some, None, refl, sym, ap, arith, slice_get, ◌||◌, not, nat_lt, position, ltb, inl, inr}
+use Rattle.std.proofs.Common.{◌≡◌, ◌∙◌, ℕ, ◌≤◌, ◌+◌, Bool, true, false, cond, eqb, List, [], ◌∷◌, length, get_or, map, suc, zero, Some, None, refl, sym, ap, arith, slice_get, ◌||◌, not, nat_lt, position, inl, inr}
 use Rattle.std.specs.List.{list_any, find, prefix_len, position_or_len}
 use Rattle.std.proofs.lemmas.Bool.{cases_eq, eq-eqb, ltb-false, ne_eqb}
 use Rattle.std.proofs.lemmas.List.{length-map}

@@ -1,16 +1,13 @@
 -- What is added up, read as the sums of a cluster's lists.
-use Rattle.std.proofs.Common.{◌≡◌, ◌∙◌, ℕ, ◌+◌, ◌*◌, ◌≤◌, Bool, true, false, cond, eqb, List, [], ◌∷◌, length, refl, sym, ap, arith, mul-add, mul-one, mul-zero, zero-add}
+use Rattle.std.proofs.Common.{◌≡◌, ◌∙◌, ℕ, ◌+◌, ◌*◌, Bool, true, false, cond, eqb, List, [], ◌∷◌, length, refl, sym, ap, arith, mul-add, mul-one, mul-zero, zero-add}
 use Rattle.std.specs.Prelude.{slice_index, bytes_eq}
-use Rattle.std.specs.List.{count_by, sum_by}
+use Rattle.std.specs.List.{count_by}
 use Rattle.std.proofs.lemmas.List.Sums.{sum_by-cons}
-use Rattle.plan_terms.specs.Belongs.{IsAssignment}
 use Rattle.plan_terms.specs.Cluster.{Cluster, Lists, leads}
-use Rattle.plan_terms.specs.Faults.{IsCase}
 use Rattle.plan_terms.specs.Load.{count, leaders, load, leader_in, list_load, potential_out, sum_parts, topic_count}
 use Rattle.plan_terms.specs.declared.cluster.Part.{Part}
-use Rattle.load_model.specs.Amounts.{amount, counts_places, lead_of, follow_of}
+use Rattle.load_model.specs.Amounts.{amount}
 use Rattle.load_model.specs.Places.{topic_at}
-use Rattle.load_model.specs.declared.amounts.Amount.{Amount}
 use Rattle.load_model.specs.declared.amounts.Amount.TheVariants.{Load, Replicas, Leaders, PotentialOut, LeaderIn, OfTopic}
 
 abbrev count_in : ℕ → List ℕ → ℕ

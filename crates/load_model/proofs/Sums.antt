@@ -1,7 +1,7 @@
 -- Sums over partitions and their lists, one after another, and how great they can be.
 use Rattle.std.proofs.Common.{◌≡◌, ◌∙◌, ℕ, ◌+◌, ◌*◌, ◌<◌, ◌≤◌, ◌^◌, Bool, true, false, cond, eqb, List, [], ◌∷◌, length, get_or, map, drop, zero, suc, refl, sym, ap, arith, add-one, inl, inr}
 use Rattle.std.specs.Prelude.{nat_le, bytes_eq}
-use Rattle.std.specs.List.{All, list_any, count_by}
+use Rattle.std.specs.List.{list_any, count_by}
 use Rattle.std.proofs.lemmas.Bool.{cases_eq, cases_lt, eq-eqb, false_from_ne_true, false≢true, ne_eqb}
 use Rattle.std.proofs.lemmas.Bool.Decides.{nat_tests}
 use Rattle.std.proofs.lemmas.List.{get_or_past}

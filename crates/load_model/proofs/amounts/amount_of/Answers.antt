@@ -1,4 +1,4 @@
-use Rattle.std.proofs.Common.{◌≡◌, ◌+◌, ◌≤◌, ◌<◌, ◌^◌, drop, length, arith}
+use Rattle.std.proofs.Common.{drop, arith}
 use Rattle.plan_terms.specs.Load.{sum_parts}
 use Rattle.load_model.specs.Amounts.{amount, share, lead_of, follow_of}
 use Rattle.load_model.proofs.Sums.{amount-few, amount-small, sum_parts-next, sum_parts-end}

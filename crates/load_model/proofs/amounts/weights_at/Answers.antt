@@ -1,5 +1,3 @@
-use Rattle.std.proofs.Common.{◌∙◌, ap, arith}
-use Rattle.load_model.specs.Amounts.{lead_at, follow_at}
 use Rattle.load_model.proofs.Sums.{LightPart-case, topic_test}
 use Rattle.load_model.proofs.amounts.weights_at.Goals as goal
 
