@@ -2,7 +2,7 @@
 use Rattle.std.proofs.Common.{◌≡◌, ℕ, ◌<◌, ◌≤◌, Bool, true, false, not, ◌&&◌, cond, List, [], ◌∷◌, map, length, get_or, arith, refl, sym, inl, inr, zero, suc}
 use Rattle.std.specs.Prelude.{◌==◌, nat_lt, nat_le, IsTrue, bytes_eq}
 use Rattle.std.specs.List.{All, list_any, list_all, count_by}
-use Rattle.std.proofs.lemmas.Bool.{cases_eq, and_parts, not-true, ltb-true, leb-true, eq-eqb, ne_eqb, or_parts, true≢false}
+use Rattle.std.proofs.lemmas.Bool.{cases_eq, and_parts, and_from, not-true, not_from_false, ltb-true, leb-true, lt-ltb, le-leb, eq-eqb, ne_eqb, or_parts, or_from, true≢false}
 use Rattle.std.proofs.lemmas.List.Sums.{sum_by-cons}
 use Rattle.std.proofs.lemmas.Slice.Eq.{bytes_eq-Decides}
 use Rattle.plan_terms.specs.Belongs.{distinct, IsReplicaList}
@@ -92,3 +92,56 @@ admitted s ps h =
       distinct = λ n. one_each n ps one.1;
       alive = λ k d m. (each k d m).alive;
     }
+
+-- and what a launch asks gives the test
+pub all_from : {X : Type 0} (p : X → Bool) (xs : List X) → All (λ x. p x ≡ true) xs → list_all p xs ≡ true
+all_from p [] h = refl
+all_from p (x ∷ xs) h = and_from (p x) (list_all p xs) (h 0 x (omega arith)) (all_from p xs (λ k d l. h (suc k) d (omega arith)))
+
+none_counted : {X : Type 0} (p : X → Bool) (xs : List X) → count_by p xs ≡ 0 → list_any p xs ≡ false
+none_counted p [] e = refl
+none_counted p (x ∷ xs) e =
+    let sum = sum_by-cons (λ x. one (p x)) x xs in
+    or_from (p x) (list_any p xs) (unseen (p x) (omega (arith, sum, e))) (none_counted p xs (omega (arith, sum, e))) where
+      unseen : (b : Bool) → one b ≡ 0 → b ≡ false
+      unseen true z = absurd (omega (arith, z))
+      unseen false z = refl
+
+parts_differ : (ps : List Proposal) → ((n : ℕ) → count_by (λ (p : Proposal). p.part == n) ps ≤ 1) → have_distinct_parts ps ≡ true
+parts_differ [] h = refl
+parts_differ (p ∷ ps) h =
+    let here : one (p.part == p.part) ≡ 1 = rw (eq-eqb p.part p.part refl) refl in
+    let sum = sum_by-cons (λ (q : Proposal). one (q.part == p.part)) p ps in
+    and_from (not (list_any (λ (q : Proposal). q.part == p.part) ps)) (have_distinct_parts ps)
+    (not_from_false _ (none_counted (λ (q : Proposal). q.part == p.part) ps (omega (arith, sum, here, h p.part))))
+    (parts_differ ps (λ n. omega (arith, h n, sum_by-cons (λ (q : Proposal). one (q.part == n)) p ps)))
+
+spared : (a b : Bool) → (a ≡ true → b ≡ false) → not (a && b) ≡ true
+spared true b h = not_from_false b (h refl)
+spared false b h = refl
+
+fits_from : (s : State) (p : Proposal) → Fits s p → fits_launch s p ≡ true
+unfolding fits_launch
+fits_from s p f =
+    and_from _ (needs_no_dead s.hosts p.before p.after)
+    (and_from _ (list_all (is_host s.hosts) p.after)
+    (and_from _ (is_replica_list p.after)
+    (and_from (nat_lt p.part (length s.base)) (bytes_eq p.before (list_now s p.part)) (lt-ltb p.part (length s.base) f.known) ((bytes_eq-Decides p.before (list_now s p.part)).1 f.before))
+    (and_from (nat_le 1 (length p.after) && nat_le (length p.after) 8) (distinct p.after)
+    (and_from (nat_le 1 (length p.after)) (nat_le (length p.after) 8) (le-leb 1 (length p.after) f.list.some) (le-leb (length p.after) 8 f.list.few)) f.list.once))
+    f.brokers)
+    (all_from (λ h. not (h.dead && needs_between p.before p.after h.id)) s.hosts
+    (λ k d m. spared (get_or s.hosts k d).dead (needs_between p.before p.after (get_or s.hosts k d).id) (f.alive k d m)))
+
+pub asked : (s : State) (ps : List Proposal) → CanLaunch s ps → may_launch s ps ≡ true
+unfolding may_launch
+asked s ps can =
+    and_from (nat_le (length ps) 10000 && have_distinct_parts ps) (list_all (fits_launch s) ps)
+    (and_from (nat_le (length ps) 10000) (have_distinct_parts ps) (le-leb (length ps) 10000 can.few) (parts_differ ps can.distinct))
+    (all_from (fits_launch s) ps (λ k d m. fits_from s (get_or ps k d) (record {
+      known = can.known k d m;
+      before = can.before k d m;
+      list = can.lists k d m;
+      brokers = can.brokers k d m;
+      alive = can.alive k d m;
+    })))

@@ -1,5 +1,5 @@
 // One worker alone, whom nobody stops.
-ghost use Rattle.std.specs.Prelude.{◌≡◌, ◌≤◌, None, IfOk, OnOk, IsTrue, false, not, map};
+ghost use Rattle.std.specs.Prelude.{◌≡◌, ◌↔◌, ◌≤◌, None, IfOk, OnOk, IsTrue, false, not, map};
 ghost use Rattle.std.specs.List.{All, filter, list_all, list_any};
 ghost use Rattle.plan_terms.specs.Belongs.{Belongs};
 ghost use Rattle.plan_terms.specs.Change.{proposals};
@@ -108,8 +108,7 @@ fn none_lost(case: &Case, lists: &[Replicas]) -> bool
 
 /// Whether no member of any list is a lost broker.
 pub fn avoids_lost(case: &Case, lists: &Assign) -> bool
-    ensures test { result ≡ list_all (λ list. not (list_any (is_lost case.now) list)) lists.now }
-    ensures avoids { IsTrue result → All (λ list. list_any (is_lost case.now) list ≡ false) lists.now }
+    ensures { IsTrue result ↔ All (λ list. list_any (is_lost case.now) list ≡ false) lists.now }
 {
     none_lost(case, lists.lists())
 }

@@ -1,5 +1,5 @@
 // The executor's state, and its calls.
-ghost use Rattle.std.specs.Prelude.{◌≡◌, ◌+◌, ◌<◌, ◌≤◌, ◌^◌, ◌&&◌, not, if◌then◌else◌, length, IsTrue, Ok, Err, None, IfOk, IfErr, OnOk, OnErr, true, false, nat_lt, bytes_eq};
+ghost use Rattle.std.specs.Prelude.{◌≡◌, ◌↔◌, ◌+◌, ◌<◌, ◌≤◌, ◌^◌, ◌&&◌, not, if◌then◌else◌, length, IsTrue, Ok, Err, None, IfOk, IfErr, OnOk, OnErr, true, false, nat_lt, bytes_eq};
 ghost use Rattle.std.specs.List.{All, list_all, position};
 ghost use Rattle.plan_terms.specs.Belongs.{distinct};
 ghost use Rattle.plan_terms.specs.Cluster.{has};
@@ -99,8 +99,7 @@ impl Exec {
     /// Whether the proposals can be launched: at most 10,000, of partitions that differ, each from the list that its partition
     /// has now to 1 to 8 distinct known brokers, and no dead broker is added or would lead where the leader alone changes.
     pub fn can_launch(&self, proposals: &[Proposal]) -> bool
-        ensures test { result ≡ may_launch self.now proposals.now }
-        ensures launches { IsTrue result → CanLaunch self.now proposals.now }
+        ensures { IsTrue result ↔ CanLaunch self.now proposals.now }
     {
         self.may_launch(proposals)
     }
