@@ -1,4 +1,4 @@
-pub mod Items
-pub mod Members
+pub mod Alive
+pub mod LoadLemmas
 pub mod PlanSteps
 pub mod Scan

@@ -9,7 +9,7 @@ use Rattle.plan_terms.specs.Racks.{rack_goal}
 use Rattle.plan_terms.specs.Trace.{Planned, Failed, after_turns}
 use Rattle.plan_terms.specs.declared.actions.Action.{Action}
 use Rattle.proposal_set.specs.Text.{reassignment_text, assignment_text}
-use Rattle.cc_program.specs.Thin.{ClusterLists}
+use Rattle.cc_program.specs.Input.{ClusterLists}
 use Rattle.cc_program.specs.declared.words.Verb.{Verb}
 use Rattle.cc_program.specs.declared.words.Verb.TheVariants.{Plan, Apply}
 

@@ -1,9 +1,8 @@
 pub mod Answers
+pub mod Input
 pub mod Kinds
 pub mod Outcome
 pub mod Quiet
-pub mod Reading
 pub mod Runs
-pub mod Thin
 pub mod Views
 pub mod Words

@@ -1,12 +1,22 @@
 -- What stands behind each status.
-use Rattle.std.specs.Prelude.{◌≡◌, ℕ, List, Option, Some, IfSome}
-use Rattle.cc_program.specs.Thin.{ClusterLists, Means}
+use Rattle.std.specs.Prelude.{◌≡◌, ℕ, List, [], ◌∷◌, ◌++◌, Option, Some, IfSome, Ok, Err, codes}
+use Rattle.cluster_json.specs.Faults.{Fault}
+use Rattle.cluster_json.specs.Texts.{fault_text}
+use Rattle.cc_program.specs.Input.{ClusterLists, input_of}
 use Rattle.cc_program.specs.Words.{Asked, command}
 use Rattle.cc_program.specs.declared.words.Verb.{Verb}
 
--- the bytes have no meaning
-abbrev pub IsRefused : List ℕ → Type 0
-IsRefused bytes = (file : ClusterLists) → Means bytes file → ⊥
+-- the bytes give this to plan for
+abbrev pub Means : List ℕ → ClusterLists → Type 0
+Means bytes file = input_of bytes ≡ Ok file
+
+-- the bytes are refused for this fault, the first of theirs
+abbrev pub IsRefused : List ℕ → Fault → Type 0
+IsRefused bytes fault = input_of bytes ≡ Err fault
+
+-- the line that tells a fault
+abbrev pub refusal_line : Fault → List ℕ
+refusal_line fault = codes "cluster refused: " ++ fault_text fault ++ 10 ∷ []
 
 -- the words are a command for a file, and P holds of what is asked and of what the file means
 pub record IsAnswer (words : List (List ℕ)) (told : List ℕ → Option (List ℕ)) (P : Verb → ClusterLists → Type 0) : Type 0 where
@@ -16,8 +26,10 @@ pub record IsAnswer (words : List (List ℕ)) (told : List ℕ → Option (List 
   pub meant : IfSome (told asked.name) (λ bytes. Means bytes file)
   pub answered : P asked.verb file
 
--- the words are a command for a file that has no meaning
-pub record IsRefusal (words : List (List ℕ)) (told : List ℕ → Option (List ℕ)) : Type 0 where
+-- the words are a command for a file that is refused, and the line tells its first fault
+pub record IsRefusal (words : List (List ℕ)) (told : List ℕ → Option (List ℕ)) (line : List ℕ) : Type 0 where
   pub asked : Asked
   pub means : command words ≡ Some asked
-  pub refused : IfSome (told asked.name) IsRefused
+  pub fault : Fault
+  pub refused : IfSome (told asked.name) (λ bytes. IsRefused bytes fault)
+  pub line_is : line ≡ refusal_line fault

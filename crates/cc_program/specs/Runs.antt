@@ -1,17 +1,18 @@
 -- How a run ends, and what each end tells.
-use Rattle.std.specs.Prelude.{◌≡◌, ◌≢◌, ◌⊎◌, ℕ, List, [], ◌∷◌, ◌++◌, codes, Option, None, IfSome, Result, Ok, Err}
+use Rattle.std.specs.Prelude.{◌≡◌, ◌≢◌, ◌⊎◌, ℕ, List, [], ◌∷◌, ◌++◌, codes, Option, Some, None, IfSome, Result, Ok, Err}
 use Rattle.exec_terms.specs.Machine.{first_unfinished, lists_now}
 use Rattle.plan_terms.specs.Cluster.{Cluster, Lists}
 use Rattle.proposal_set.specs.Text.{assignment_text}
 use Rattle.cc_program.specs.declared.words.Verb.{Verb}
 use Rattle.cc_program.specs.declared.words.Verb.TheVariants as asks
 use Rattle.cc_base.specs.Outside.{HasRisen, appended, IsPrefixOut}
-use Rattle.cc_program.specs.Thin.{ClusterLists, Means}
+use Rattle.cc_program.specs.Input.{ClusterLists}
 use Rattle.cc_program.specs.Words.{command}
 use Rattle.cc_program.specs.Views.{cluster_lists}
 use Rattle.cc_program.specs.Answers.{IsDoneText, IsFailureText}
-use Rattle.cc_program.specs.Quiet.{IsRefused, IsAnswer, IsRefusal}
-use Rattle.cc_program.specs.declared.thin.Loaded.{Loaded}
+use Rattle.cc_program.specs.Quiet.{Means, IsRefused, IsAnswer, IsRefusal, refusal_line}
+use Rattle.cluster_json.specs.Faults.{Fault}
+use Rattle.cc_program.specs.declared.input.Loaded.{Loaded}
 use Rattle.cc_program.specs.declared.quiet.Answer.{Answer}
 use Rattle.cc_program.specs.declared.quiet.Answer.TheVariants.{Planned, Applied, Failure}
 use Rattle.cc_program.specs.declared.quiet.LoadFault.{LoadFault}
@@ -19,18 +20,25 @@ use Rattle.cc_program.specs.declared.quiet.LoadFault.TheVariants as fault
 use Rattle.cc_program.specs.declared.quiet.End.{End}
 use Rattle.cc_program.specs.declared.quiet.End.TheVariants.{Done, Usage, Refused, GoalFailed, FileFault, WriteFault, Memory}
 
--- what was loaded is what the file means, where its bytes are told; a refusal says that they mean nothing; a fault was counted
+-- what was loaded is what the file means, where its bytes are told; a refusal is their first fault, and its line tells it; a fault was
+-- counted
 abbrev pub Loads : Option (List ℕ) → ℕ → ℕ → Result Loaded LoadFault → Type 0
 Loads told before now (Ok loaded) = IfSome told (λ bytes. Means bytes (cluster_lists loaded))
-Loads told before now (Err fault.Refused) = IfSome told IsRefused
+Loads told before now (Err (fault.Refused line)) = (f : Fault) × IfSome told (λ bytes. IsRefused bytes f) × (line.items ≡ refusal_line f)
 Loads told before now (Err fault.Failed) = HasRisen before now
 Loads told before now (Err fault.Memory) = Unit {0}
+
+-- a refusal with the line of the fault that is told, unless memory ran out
+abbrev pub TellsRefusal : Option Fault → LoadFault → Type 0
+TellsRefusal told (fault.Refused line) = (f : Fault) × (told ≡ Some f) × (line.items ≡ refusal_line f)
+TellsRefusal told fault.Failed = ⊥
+TellsRefusal told fault.Memory = Unit {0}
 
 -- the exit status
 abbrev pub status_of : End → ℕ
 status_of Done = 0
 status_of Usage = 2
-status_of Refused = 3
+status_of (Refused line) = 3
 status_of GoalFailed = 4
 status_of FileFault = 5
 status_of WriteFault = 7
@@ -40,7 +48,7 @@ status_of Memory = 9
 abbrev pub line_of : End → List ℕ
 line_of Done = []
 line_of Usage = codes "usage error" ++ 10 ∷ []
-line_of Refused = codes "cluster refused: Unsupported" ++ 10 ∷ []
+line_of (Refused line) = line.items
 line_of GoalFailed = codes "hard goal failed: RackAwareGoal" ++ 10 ∷ []
 line_of FileFault = codes "file fault" ++ 10 ∷ []
 line_of WriteFault = codes "write fault" ++ 10 ∷ []
@@ -60,7 +68,7 @@ pub record Edge : Type 0 where
 abbrev pub Runs : List (List ℕ) → Edge → End → Type 0
 Runs words e Done = (text : List ℕ) × IsAnswer words e.told (λ verb file. IsDoneText verb file text) × (e.written_now ≡ appended e.written_before text)
 Runs words e Usage = (command words ≡ None) × (e.written_now ≡ e.written_before)
-Runs words e Refused = IsRefusal words e.told × (e.written_now ≡ e.written_before)
+Runs words e (Refused line) = IsRefusal words e.told line.items × (e.written_now ≡ e.written_before)
 Runs words e GoalFailed = (text : List ℕ) × IsAnswer words e.told (λ verb file. IsFailureText file text) × (e.written_now ≡ appended e.written_before text)
 Runs words e FileFault = (command words ≢ None) × HasRisen e.files_before e.files_now × (e.written_now ≡ e.written_before)
 Runs words e WriteFault = (text : List ℕ) × IsAnswer words e.told (λ verb file. IsDoneText verb file text ⊎ IsFailureText file text) × HasRisen e.out_before e.out_now × IsPrefixOut e.written_before e.written_now text

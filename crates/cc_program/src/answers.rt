@@ -1,6 +1,9 @@
 // The texts that answer for a cluster.
-ghost use Rattle.std.specs.Prelude.{◌≡◌, ◌++◌, ◌∷◌, [], codes, get_or, length, IfOk};
+ghost use Rattle.std.specs.Prelude.{◌≡◌, ◌++◌, ◌∷◌, [], codes, false, get_or, length, IfOk};
+ghost use Rattle.std.specs.List.{All};
 ghost use Rattle.plan_terms.specs.Belongs.{Belongs};
+ghost use Rattle.plan_terms.specs.States.{is_dead};
+ghost use Rattle.cluster_json.specs.Ranges.{AreCaps};
 ghost use Rattle.serde_json.specs.Data.{object, member, string, no_members};
 ghost use Rattle.serde_json.specs.View.{view};
 ghost use Rattle.plan_terms.specs.Change.{proposals};
@@ -10,10 +13,12 @@ ghost use Rattle.cc_program.specs.Answers.{goal_names, failure_text, IsPlanText,
 ghost use Rattle.cc_program.specs.Views.{cluster_lists};
 ghost use Rattle.cc_program.specs.Runs.{IsMade, IsApplied};
 
+use crate::input::Loaded;
 use crate::plan::{Ended, plan_turns};
 use crate::quiet::Answer;
-use crate::thin::Loaded;
 use crate::words::Verb;
+use cluster_json::Caps3;
+use exec_terms::Caps;
 use executor_core::{Exec, carry_out};
 use load_model::{Assign, Case, Memory};
 use proposal_set::{assignment_text, proposals, reassignment_text};
@@ -79,20 +84,35 @@ fn lists_line(alloc: Global, case: &Case, exec: &Exec) -> Result<Vec<u8>, Memory
     Ok(text)
 }
 
-// Carries out what leads from the one assignment to the other, and writes the lists that this leaves.
-fn applied(alloc: Global, case: &Case, before: &Assign, after: &Assign) -> Result<Answer, Memory>
+// Carries out within the caps what leads from the one assignment to the other, and writes the lists that this leaves.
+fn applied(
+    alloc: Global,
+    case: &Case,
+    caps: &Caps3,
+    before: &Assign,
+    after: &Assign,
+) -> Result<Answer, Memory>
+    requires caps { AreCaps caps.now }
     requires before { Belongs case.now before.now }
     requires after { Belongs case.now after.now }
+    requires alive { All (λ b. is_dead b.state ≡ false) case.now.brokers }
     ensures { IfOk result (IsApplied case.now before.now after.now) }
 {
-    let exec = carry_out(alloc, case, before, after)?;
+    let caps = Caps {
+        broker: caps.broker,
+        cluster: caps.cluster,
+        leader: caps.leader,
+    };
+    let exec = carry_out(alloc, case, caps, before, after)?;
     let text = lists_line(alloc, case, &exec)?;
     Ok(Answer::Applied(exec, text))
 }
 
 /// What a command makes of the cluster: the text of a plan, the end of its execution, or the goal that fails.
 pub fn answer(alloc: Global, verb: Verb, loaded: &Loaded) -> Result<Answer, Memory>
-    requires { Belongs loaded.now.case loaded.now.lists }
+    requires belongs { Belongs loaded.now.case loaded.now.lists }
+    requires caps { AreCaps loaded.now.caps }
+    requires alive { All (λ b. is_dead b.state ≡ false) loaded.now.case.brokers }
     ensures { IfOk result (IsMade verb (cluster_lists loaded.now)) }
 {
     let case = &loaded.case;
@@ -102,7 +122,7 @@ pub fn answer(alloc: Global, verb: Verb, loaded: &Loaded) -> Result<Answer, Memo
     match outcome.ended {
         Ended::Planned => match verb {
             Verb::Plan => Ok(Answer::Planned(change_line(alloc, case, start, &outcome.end)?)),
-            Verb::Apply => applied(alloc, case, start, &outcome.end),
+            Verb::Apply => applied(alloc, case, &loaded.caps, start, &outcome.end),
         },
         Ended::Failed { place, left } => Ok(Answer::Failure(failure_line(alloc, place, left)?)),
     }

@@ -2,10 +2,10 @@
 #![tactic(auto)]
 
 mod answers;
-mod fault;
+mod input;
+mod loads;
 mod plan;
 mod quiet;
-mod thin;
 mod turn;
 mod words;
 
@@ -37,7 +37,7 @@ fn main(rt: HostRuntime) -> ExitCode {
     let mut err = HostSink::new(HostStream::Err(rt.stderr()));
     let words = match words_of(&rt) {
         Ok(words) => words,
-        Err(e) => return ExitCode::from(conclude(&mut err, end_without_words(e.kind()))),
+        Err(e) => return ExitCode::from(conclude(&mut err, &end_without_words(e.kind()))),
     };
     let mut files = HostFiles::new(rt);
     let mut input = HostSource::new(rt.stdin());
@@ -53,6 +53,3 @@ fn main(rt: HostRuntime) -> ExitCode {
     );
     ExitCode::from(status)
 }
-
-#[cfg(test)]
-mod tests;

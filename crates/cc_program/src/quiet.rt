@@ -1,36 +1,44 @@
 // The commands that wait for nobody.
-ghost use Rattle.std.specs.Prelude.{◌≡◌, ◌≢◌, ◌≤◌, ◌⊎◌, ◌↔◌, List, ℕ, map, Some, None, string_bytes, IfOk};
+ghost use Rattle.std.specs.Prelude.{◌≡◌, ◌≢◌, ◌≤◌, ◌⊎◌, ◌↔◌, List, ℕ, map, Some, None, false, string_bytes, IfOk};
 ghost use Rattle.cc_base.specs.Outside.{HasRisen, appended, IsPrefixOut};
 ghost use Rattle.plan_terms.specs.Belongs.{Belongs};
 ghost use Rattle.cc_program.specs.Answers.{IsDoneText, IsFailureText};
 ghost use Rattle.cc_program.specs.Quiet.{IsRefused, IsAnswer, IsRefusal};
-ghost use Rattle.cc_program.specs.Runs.{Loads, Runs, IsTold, status_of, line_of};
+ghost use Rattle.cc_program.specs.Runs.{Loads, Runs, TellsRefusal, IsTold, status_of, line_of};
+ghost use Rattle.cluster_json.specs.Faults.{Fault};
+ghost use Rattle.cluster_json.specs.Ranges.{AreCaps};
+ghost use Rattle.cluster_json.specs.Reading.{fault_of};
+ghost use Rattle.plan_terms.specs.States.{is_dead};
+ghost use Rattle.std.specs.List.{All};
 ghost use Rattle.cc_program.specs.Words.{Asked, command};
 ghost use Rattle.cc_program.specs.declared.quiet.End.{End};
 
 use crate::answers::answer;
-use crate::fault::ReadRefusal;
-use crate::thin::{Loaded, read_cluster};
+use crate::input::{Loaded, read_input, refusal_line};
 use crate::words::command;
 use cc_base::{FileFault, Files, Sink, Source, write_all_of};
+use cluster_json::FileRefusal;
 use executor_core::Exec;
+use load_model::Memory;
 use std::alloc::Global;
 use std::thread::Threads;
 
 /// Why a file was not loaded.
-#[derive(Clone, Copy, Debug, PartialEq, Eq)]
+#[derive(Debug, Drop)]
 pub enum LoadFault {
-    Refused,
+    /// The line that tells the file's first fault.
+    Refused(Vec<u8>),
     Failed,
     Memory,
 }
 
 /// How a run ended.
-#[derive(Clone, Copy, Debug, PartialEq, Eq)]
+#[derive(Debug, Drop)]
 pub enum End {
     Done,
     Usage,
-    Refused,
+    /// The line that tells the file's first fault.
+    Refused(Vec<u8>),
     GoalFailed,
     FileFault,
     WriteFault,
@@ -48,16 +56,30 @@ pub enum Answer {
     Failure(Vec<u8>),
 }
 
+// A refusal with its line, unless memory ran out.
+fn refused(alloc: Global, refusal: &FileRefusal) -> LoadFault
+    ensures { TellsRefusal (fault_of refusal.now) result }
+{
+    match refusal {
+        FileRefusal::Memory => LoadFault::Memory,
+        refusal => match refusal_line(alloc, refusal) {
+            Ok(line) => LoadFault::Refused(line),
+            Err(Memory) => LoadFault::Memory,
+        },
+    }
+}
+
 fn load<F: Files>(alloc: Global, files: &mut F, name: &str) -> Result<Loaded, LoadFault>
     ensures later { F.faults files.old ≤ F.faults files.new }
     ensures loads { Loads (F.contents files.old name.now) (F.faults files.old) (F.faults files.new) result }
     ensures belongs { IfOk result (λ loaded. Belongs loaded.case loaded.lists) }
+    ensures caps { IfOk result (λ loaded. AreCaps loaded.caps) }
+    ensures alive { IfOk result (λ loaded. All (λ b. is_dead b.state ≡ false) loaded.case.brokers) }
 {
     match files.load(alloc, name) {
-        Ok(bytes) => match read_cluster(alloc, &bytes) {
+        Ok(bytes) => match read_input(alloc, &bytes) {
             Ok(loaded) => Ok(loaded),
-            Err(ReadRefusal::Refused) => Err(LoadFault::Refused),
-            Err(ReadRefusal::Memory) => Err(LoadFault::Memory),
+            Err(refusal) => Err(refused(alloc, &refusal)),
         },
         Err(FileFault::Failed) => Err(LoadFault::Failed),
         Err(FileFault::Memory) => Err(LoadFault::Memory),
@@ -82,7 +104,7 @@ fn run<F: Files, O: Sink>(alloc: Global, words: &[String], files: &mut F, out: &
     };
     let loaded = match load(alloc, files, command.file) {
         Ok(loaded) => loaded,
-        Err(LoadFault::Refused) => return End::Refused,
+        Err(LoadFault::Refused(line)) => return End::Refused(line),
         Err(LoadFault::Failed) => return End::FileFault,
         Err(LoadFault::Memory) => return End::Memory,
     };
@@ -106,13 +128,13 @@ fn run<F: Files, O: Sink>(alloc: Global, words: &[String], files: &mut F, out: &
     }
 }
 
-fn status(end: End) -> u8
-    ensures { result ≡ status_of end }
+fn status(end: &End) -> u8
+    ensures { result ≡ status_of end.now }
 {
     match end {
         End::Done => 0,
         End::Usage => 2,
-        End::Refused => 3,
+        End::Refused(_) => 3,
         End::GoalFailed => 4,
         End::FileFault => 5,
         End::WriteFault => 7,
@@ -120,13 +142,13 @@ fn status(end: End) -> u8
     }
 }
 
-fn line(end: End) -> &'static [u8]
-    ensures { result.now ≡ line_of end }
+fn line(end: &End) -> &[u8]
+    ensures { result.now ≡ line_of end.now }
 {
     match end {
         End::Done => b"",
         End::Usage => b"usage error\n",
-        End::Refused => b"cluster refused: Unsupported\n",
+        End::Refused(line) => line.as_slice(),
         End::GoalFailed => b"hard goal failed: RackAwareGoal\n",
         End::FileFault => b"file fault\n",
         End::WriteFault => b"write fault\n",
@@ -135,9 +157,9 @@ fn line(end: End) -> &'static [u8]
 }
 
 /// Writes the end's line to the error stream, and answers its status. A fault of that stream changes nothing else.
-pub fn conclude<O: Sink>(err: &mut O, end: End) -> u8
-    ensures status { result ≡ status_of end }
-    ensures told { IsTold (line_of end) (O.written err.old) (O.written err.new) (O.faults err.old) (O.faults err.new) }
+pub fn conclude<O: Sink>(err: &mut O, end: &End) -> u8
+    ensures status { result ≡ status_of end.now }
+    ensures told { IsTold (line_of end.now) (O.written err.old) (O.written err.new) (O.faults err.old) (O.faults err.new) }
     ensures later { O.faults err.old ≤ O.faults err.new }
 {
     match write_all_of(err, line(end)) {
@@ -171,10 +193,11 @@ pub fn run_quiet<R: Threads + Sync, F: Files, I: Source, O: Sink>(
         × (O.written out.new ≡ appended (O.written out.old) text) }
     // 2: exactly where the words are no command.
     ensures usage { (result ≡ 2) ↔ (command (map string_bytes words.now) ≡ None) }
-    // 3: only where the file has no meaning, and there unless the files or memory fail.
-    ensures refused { result ≡ 3 → IsRefusal (map string_bytes words.now) (F.contents files.old) }
-    ensures refuses { (asked : Asked) (bytes : List ℕ) → command (map string_bytes words.now) ≡ Some asked → F.contents files.old asked.name ≡ Some bytes
-        → IsRefused bytes → (result ≡ 3) ⊎ (result ≡ 5) ⊎ (result ≡ 9) }
+    // 3: only where the file has a fault, whose line is told, and there unless the files or memory fail.
+    ensures refused { result ≡ 3 → (line : List ℕ) × IsRefusal (map string_bytes words.now) (F.contents files.old) line
+        × IsTold line (O.written err.old) (O.written err.new) (O.faults err.old) (O.faults err.new) }
+    ensures refuses { (asked : Asked) (bytes : List ℕ) (fault : Fault) → command (map string_bytes words.now) ≡ Some asked → F.contents files.old asked.name ≡ Some bytes
+        → IsRefused bytes fault → (result ≡ 3) ⊎ (result ≡ 5) ⊎ (result ≡ 9) }
     // 5: only where the files' count rose.
     ensures files { result ≡ 5 → HasRisen (F.faults files.old) (F.faults files.new) }
     // 7: only where the output's count rose. A front of the text is out.
@@ -192,5 +215,5 @@ pub fn run_quiet<R: Threads + Sync, F: Files, I: Source, O: Sink>(
     ensures err_later { O.faults err.old ≤ O.faults err.new }
 {
     let end = run(alloc, words, files, out);
-    conclude(err, end)
+    conclude(err, &end)
 }

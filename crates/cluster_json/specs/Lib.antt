@@ -11,4 +11,5 @@ pub mod Reading
 pub mod Samples
 pub mod Settings
 pub mod Shapes
+pub mod Texts
 pub mod Views

@@ -12,6 +12,7 @@ mod refusal;
 mod samples;
 mod settings;
 mod shape;
+mod text;
 
 pub use config::{Caps3, WindowRules};
 pub use file::{ClusterFile, read_cluster};
