@@ -1,6 +1,6 @@
 -- A task that enters or leaves, by the entries of all brokers.
 use Rattle.std.proofs.Common.{◌≡◌, ℕ, ◌+◌, ◌-◌, ◌<◌, ◌≤◌, ◌^◌, Bool, true, false, not, cond, List, map, take, drop, ◌++◌, length, get_or, arith, refl, sym, ap, ◌∙◌, inl, inr}
-use Rattle.std.specs.Prelude.{◌==◌, ◌&&◌, is_some, Option, Some, None}
+use Rattle.std.specs.Prelude.{is_some, Option, Some, None}
 use Rattle.std.specs.List.{All, list_all}
 use Rattle.std.specs.Option.{option_map, option_map_or}
 use Rattle.std.proofs.lemmas.Bool.{cases_Bool, not-true, true≢false}

@@ -1,8 +1,8 @@
 -- The entry of a broker in a list of entries.
-use Rattle.std.proofs.Common.{◌≡◌, ℕ, ◌+◌, ◌<◌, Bool, true, false, cond, List, [], ◌∷◌, map, length, get_or, arith, refl, sym, ap, ◌∙◌, zero, suc, inl, inr}
-use Rattle.std.specs.Prelude.{◌==◌, ◌||◌, find, is_some, Option, Some, None}
+use Rattle.std.proofs.Common.{◌≡◌, ℕ, ◌<◌, Bool, true, false, cond, List, [], ◌∷◌, map, length, get_or, arith, refl, sym, ap, ◌∙◌, zero, suc}
+use Rattle.std.specs.Prelude.{◌==◌, ◌||◌, is_some, Some}
 use Rattle.std.specs.Option.{option_map, option_map_or}
-use Rattle.std.proofs.lemmas.Bool.{cases_eq, eq-eqb, ne_eqb, eqb-true, false≢true, true≢false, and_parts, not-true, or_left, or_right}
+use Rattle.std.proofs.lemmas.Bool.{eq-eqb, ne_eqb, eqb-true, false≢true, true≢false, and_parts, not-true, or_left, or_right}
 use Rattle.plan_terms.specs.Belongs.{distinct}
 use Rattle.plan_terms.specs.Cluster.{has}
 use Rattle.cap_ledger.specs.declared.entry.Entry.{Entry}

@@ -1,13 +1,12 @@
 -- The test of a launch gives what a launch asks.
-use Rattle.std.proofs.Common.{◌≡◌, ℕ, ◌<◌, ◌≤◌, Bool, true, false, not, ◌&&◌, cond, List, [], ◌∷◌, map, length, get_or, arith, refl, sym, inl, inr, zero, suc}
-use Rattle.std.specs.Prelude.{◌==◌, nat_lt, nat_le, IsTrue, bytes_eq}
+use Rattle.std.proofs.Common.{◌≡◌, ℕ, ◌<◌, ◌≤◌, Bool, true, false, not, ◌&&◌, cond, List, [], ◌∷◌, length, get_or, arith, refl, sym, inl, inr, zero, suc}
+use Rattle.std.specs.Prelude.{◌==◌, nat_lt, nat_le, bytes_eq}
 use Rattle.std.specs.List.{All, list_any, list_all, count_by}
 use Rattle.std.proofs.lemmas.Bool.{cases_eq, and_parts, and_from, not-true, not_from_false, ltb-true, leb-true, lt-ltb, le-leb, eq-eqb, ne_eqb, or_parts, or_from, true≢false}
 use Rattle.std.proofs.lemmas.List.Sums.{sum_by-cons}
 use Rattle.std.proofs.lemmas.Slice.Eq.{bytes_eq-Decides}
 use Rattle.plan_terms.specs.Belongs.{distinct, IsReplicaList}
 use Rattle.plan_terms.specs.declared.lists.Proposal.{Proposal}
-use Rattle.exec_terms.specs.declared.brokers.Host.{Host}
 use Rattle.exec_terms.specs.Words.{needs}
 use Rattle.exec_terms.specs.Machine.{State, task_of, list_now}
 use Rattle.exec_terms.specs.Stops.{is_host}

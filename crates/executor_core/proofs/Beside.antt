@@ -1,8 +1,8 @@
 -- What is kept beside the state, where tasks change.
-use Rattle.std.proofs.Common.{◌≡◌, ℕ, ◌+◌, ◌<◌, ◌≤◌, ◌^◌, Bool, true, false, not, ◌&&◌, ◌||◌, cond, List, [], ◌∷◌, map, set, length, get_or, arith, refl, sym, ap, ◌∙◌}
+use Rattle.std.proofs.Common.{◌≡◌, ℕ, ◌+◌, ◌<◌, ◌≤◌, Bool, true, false, not, ◌||◌, cond, List, [], ◌∷◌, map, set, length, get_or, arith, refl, sym, ap, ◌∙◌}
 use Rattle.std.specs.Prelude.{◌==◌}
-use Rattle.std.specs.List.{All, list_any, list_all}
-use Rattle.std.proofs.lemmas.List.{map-set, length-map}
+use Rattle.std.specs.List.{All, list_all}
+use Rattle.std.proofs.lemmas.List.{length-map}
 use Rattle.std.proofs.lemmas.List.{get_or-map}
 use Rattle.std.proofs.Math.Path.{fun_ext}
 use Rattle.std.proofs.Math.Seq.{map-set_same}
@@ -11,12 +11,11 @@ use Rattle.plan_terms.specs.declared.lists.Proposal.{Proposal}
 use Rattle.exec_terms.specs.declared.task.Task.{Task}
 use Rattle.exec_terms.specs.declared.brokers.Host.{Host}
 use Rattle.exec_terms.specs.Words.{in_flight, is_pending, union_of}
-use Rattle.exec_terms.specs.Machine.{State, with_task}
+use Rattle.exec_terms.specs.Machine.{State}
 use Rattle.exec_terms.specs.Stops.{is_host, marked}
-use Rattle.exec_terms.specs.Valid.{IsValid}
 use Rattle.cap_ledger.specs.Ledger.{Ledger, knows, gains, differ, HasRoom, IsCounted, IsKnownList, Enters}
 use Rattle.task_planner.specs.declared.slot.Slot.{Slot}
-use Rattle.task_planner.specs.Queue.{IsListOf, AreListsOf, ended}
+use Rattle.task_planner.specs.Queue.{IsListOf, AreListsOf}
 use Rattle.executor_core.specs.Alone.{proposal_of}
 use Rattle.executor_core.specs.Kept.{AreCounts, slot_of, IsFixed, IsKept}
 use Rattle.executor_core.proofs.Flying.{SameLists, flying-same, flying-enter, flying-leave, flying-map, flying-some, flying-few}

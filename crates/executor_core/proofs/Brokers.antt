@@ -1,20 +1,17 @@
 -- The brokers of a case, and those of them that are lost.
-use Rattle.std.proofs.Common.{◌≡◌, ℕ, ◌<◌, Bool, true, false, not, ◌&&◌, ◌||◌, cond, List, [], ◌∷◌, ◌++◌, map, length, get_or, refl, sym, ap, ◌∙◌, suc, inl, inr}
-use Rattle.std.specs.Prelude.{◌==◌, IsTrue, is_some, Option, Some, None, find}
+use Rattle.std.proofs.Common.{◌≡◌, ℕ, Bool, true, false, not, ◌||◌, cond, List, [], ◌∷◌, ◌++◌, map, get_or, refl, sym, ap, ◌∙◌, suc, inl, inr}
+use Rattle.std.specs.Prelude.{◌==◌, is_some, Option, Some, None}
 use Rattle.std.specs.List.{All, list_any, list_all, filter}
 use Rattle.std.specs.Option.{option_map, option_map_or}
-use Rattle.std.proofs.lemmas.Bool.{cases_Bool, cases_eq, and_from, and_parts, not_from_false, not-true, or_cases, or_left, or_right, or_parts, or_from, eq-eqb, ne_eqb, eqb-true, true≢false, false≢true, false_from_ne_true}
-use Rattle.std.proofs.lemmas.List.Folds.{list_any-append}
+use Rattle.std.proofs.lemmas.Bool.{and_from, and_parts, not_from_false, not-true, or_cases, or_left, or_right, or_parts, or_from, eq-eqb, ne_eqb, eqb-true, true≢false, false≢true, false_from_ne_true}
 use Rattle.std.proofs.Math.Path.{fun_ext}
-use Rattle.plan_terms.specs.Belongs.{distinct, Belongs}
-use Rattle.plan_terms.specs.Cluster.{Cluster, Lists, has, leads, is_known, broker_of, some_broker}
+use Rattle.plan_terms.specs.Belongs.{distinct}
+use Rattle.plan_terms.specs.Cluster.{Cluster, Lists, has, leads, is_known, broker_of}
 use Rattle.plan_terms.specs.Faults.{IsCase, case_fault, broker_repeat, first_repeat, repeat_from, same_id}
 use Rattle.plan_terms.specs.Legal.{is_lost}
 use Rattle.plan_terms.specs.States.{is_dead}
 use Rattle.plan_terms.specs.declared.cluster.Broker.{Broker}
 use Rattle.plan_terms.proofs.FaultLemmas.{first_of-None}
-use Rattle.exec_terms.specs.Runs.{hosts_of}
-use Rattle.exec_terms.specs.Stops.{is_host}
 
 -- the ids of brokers, and of those that are lost
 abbrev pub ids : List Broker → List ℕ

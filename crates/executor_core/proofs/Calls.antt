@@ -1,5 +1,5 @@
 -- What each call of the executor keeps.
-use Rattle.std.proofs.Common.{◌≡◌, ℕ, ◌+◌, ◌<◌, ◌≤◌, Bool, true, false, ◌&&◌, ◌||◌, cond, List, [], ◌∷◌, map, set, length, get_or, arith, refl, sym, ap, ◌∙◌}
+use Rattle.std.proofs.Common.{◌≡◌, ℕ, ◌+◌, ◌<◌, Bool, true, false, ◌||◌, cond, List, [], ◌∷◌, map, set, length, get_or, refl, sym, ap, ◌∙◌}
 use Rattle.std.specs.Prelude.{nat_lt, None, Result, Ok}
 use Rattle.std.proofs.lemmas.Bool.{false≢true}
 use Rattle.std.proofs.lemmas.List.{map-set, length-map, get_or-map, get_or_read}
@@ -11,11 +11,10 @@ use Rattle.exec_terms.specs.declared.work.WorkKind.{WorkKind}
 use Rattle.exec_terms.specs.declared.task.Task.{Task}
 use Rattle.exec_terms.specs.declared.brokers.Host.{Host}
 use Rattle.exec_terms.specs.declared.replies.Given.{Given}
-use Rattle.exec_terms.specs.declared.replies.Idle.{Idle}
 use Rattle.exec_terms.specs.declared.replies.LeaseFault.{LeaseFault}
 use Rattle.exec_terms.specs.Words.{is_pending, in_flight, needs}
-use Rattle.exec_terms.specs.Machine.{State, no_task, task_at, with_task, next_work, started, with_lease, after_take}
-use Rattle.exec_terms.specs.Leases.{test_lease, released, one_copied, one_failed, committed, cancelled, phase_cancelled}
+use Rattle.exec_terms.specs.Machine.{State, no_task, task_at, with_task, next_work, started, with_lease}
+use Rattle.exec_terms.specs.Leases.{test_lease, released, one_copied, one_failed, committed, cancelled}
 use Rattle.exec_terms.specs.Stops.{phase_stopped, stopped_by, phase_killed, killed_by, marked}
 use Rattle.exec_terms.specs.Valid.{IsValid}
 use Rattle.exec_terms.proofs.Calls.{IsValid-same, given_known, taken_is, worth}

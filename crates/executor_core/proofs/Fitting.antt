@@ -1,20 +1,18 @@
 -- The first task of the queue that fits is the first one that may start.
-use Rattle.std.proofs.Common.{◌≡◌, ℕ, ◌+◌, ◌<◌, ◌≤◌, Bool, true, false, not, ◌&&◌, ◌||◌, cond, List, [], ◌∷◌, map, get_or, arith, refl, sym, ap, ◌∙◌, zero-add, zero, suc}
-use Rattle.std.specs.Prelude.{◌==◌, nat_lt, Option, Some, None}
+use Rattle.std.proofs.Common.{◌≡◌, ℕ, ◌+◌, Bool, true, false, not, ◌&&◌, ◌||◌, cond, List, [], ◌∷◌, map, arith, refl, ap, ◌∙◌, zero-add}
+use Rattle.std.specs.Prelude.{◌==◌, nat_lt}
 use Rattle.std.specs.List.{list_any, list_all, prefix_len, position}
 use Rattle.std.proofs.lemmas.Bool.{ne_eqb}
 use Rattle.std.proofs.lemmas.List.Sums.{sum_by-cons}
 use Rattle.std.proofs.lemmas.List.{length-map}
 use Rattle.std.proofs.Math.Path.{fun_ext}
 use Rattle.plan_terms.specs.Change.{added}
-use Rattle.exec_terms.specs.declared.phase.Phase.{Phase}
-use Rattle.exec_terms.specs.declared.phase.Phase.TheVariants.{Pending, InProgress, Aborting, Aborted, Completed, Dead}
 use Rattle.exec_terms.specs.declared.task.Task.{Task}
 use Rattle.exec_terms.specs.declared.brokers.Host.{Host}
 use Rattle.exec_terms.specs.declared.brokers.Caps.{Caps}
 use Rattle.exec_terms.specs.Words.{is_pending, in_flight, is_unfinished, is_replica_task}
 use Rattle.exec_terms.specs.Machine.{adding, removing, replica_tasks, leader_tasks, unfinished_replica_tasks, has_room, has_leader_room, may_start}
-use Rattle.cap_ledger.specs.Ledger.{Ledger, adding_of, removing_of, differ, fits_in}
+use Rattle.cap_ledger.specs.Ledger.{Ledger, adding_of, removing_of, fits_in}
 use Rattle.task_planner.specs.declared.slot.Slot.{Slot}
 use Rattle.task_planner.specs.Queue.{moves, may_lead, fits_slot, first_fitting}
 use Rattle.executor_core.specs.Kept.{AreCounts, slot_of}

@@ -1,13 +1,13 @@
 -- The counts of tasks in flight, where tasks change.
-use Rattle.std.proofs.Common.{◌≡◌, ℕ, ◌+◌, ◌<◌, ◌≤◌, ◌^◌, Bool, true, false, not, ◌&&◌, cond, List, [], ◌∷◌, map, set, length, get_or, arith, refl, sym, ap, ◌∙◌}
+use Rattle.std.proofs.Common.{◌≡◌, ℕ, ◌+◌, ◌<◌, ◌≤◌, Bool, true, false, ◌&&◌, cond, List, [], ◌∷◌, map, set, length, get_or, arith, refl, sym, ap, ◌∙◌}
 use Rattle.std.specs.Prelude.{None}
-use Rattle.std.specs.List.{All, count_by}
-use Rattle.std.proofs.lemmas.Bool.{false≢true, and_left}
+use Rattle.std.specs.List.{count_by}
+use Rattle.std.proofs.lemmas.Bool.{and_left}
 use Rattle.std.proofs.lemmas.List.Sums.{sum_by-set, sum_by-cons, count_by-le-length}
 use Rattle.exec_terms.specs.declared.phase.Phase.{Phase}
 use Rattle.exec_terms.specs.declared.phase.Phase.TheVariants.{Pending, InProgress, Aborting, Aborted, Completed, Dead}
 use Rattle.exec_terms.specs.declared.task.Task.{Task}
-use Rattle.exec_terms.specs.Words.{in_flight, is_pending, is_unfinished}
+use Rattle.exec_terms.specs.Words.{in_flight, is_unfinished}
 use Rattle.exec_terms.proofs.Counts.{count_by_none, count_by_some}
 use Rattle.exec_terms.proofs.WorkLeft.{position-None}
 use Rattle.std.specs.List.{position}

@@ -1,14 +1,14 @@
 -- A launch: its lists are of known brokers, and what is kept beside the new tasks.
-use Rattle.std.proofs.Common.{◌≡◌, ℕ, ◌+◌, ◌<◌, ◌≤◌, Bool, true, false, not, ◌&&◌, ◌||◌, List, [], ◌∷◌, map, length, get_or, refl, sym, ap, ◌∙◌}
-use Rattle.std.specs.Prelude.{Option, Some, None, ◌==◌}
+use Rattle.std.proofs.Common.{◌≡◌, ℕ, ◌<◌, ◌≤◌, Bool, true, false, not, ◌&&◌, List, [], ◌∷◌, map, length, get_or, refl, sym, ap, ◌∙◌}
+use Rattle.std.specs.Prelude.{Option, Some, None}
 use Rattle.std.specs.List.{All, list_all, position}
 use Rattle.std.proofs.lemmas.Bool.{true≢false}
 use Rattle.std.proofs.lemmas.List.{get_or-map, length-map}
 use Rattle.std.proofs.lemmas.List.Elements.{All-nil}
 use Rattle.std.proofs.lemmas.List.Quantifiers.{position-Some}
 use Rattle.std.proofs.Math.Path.{fun_ext}
-use Rattle.plan_terms.specs.Belongs.{IsReplicaList, AreReplicaLists, distinct}
-use Rattle.plan_terms.specs.Cluster.{Lists, list_of, has}
+use Rattle.plan_terms.specs.Belongs.{AreReplicaLists, distinct}
+use Rattle.plan_terms.specs.Cluster.{Lists, has}
 use Rattle.plan_terms.specs.declared.lists.Proposal.{Proposal}
 use Rattle.exec_terms.specs.declared.phase.Phase.{Phase}
 use Rattle.exec_terms.specs.declared.phase.Phase.TheVariants.{Pending, InProgress, Aborting, Aborted, Completed, Dead}

@@ -1,14 +1,13 @@
 -- Whether the task that is given work has begun.
-use Rattle.std.proofs.Common.{◌≡◌, ℕ, Bool, true, false, ◌&&◌, List, refl, sym, ap, ◌∙◌}
-use Rattle.std.specs.Prelude.{Option, Some, None, Result, Ok, Err}
+use Rattle.std.proofs.Common.{◌≡◌, ℕ, Bool, true, false, ◌&&◌, refl}
+use Rattle.std.specs.Prelude.{Option, Some, None, Ok}
 use Rattle.std.specs.List.{position}
-use Rattle.std.proofs.lemmas.Bool.{and_parts, true≢false, false≢true}
+use Rattle.std.proofs.lemmas.Bool.{and_parts, false≢true}
 use Rattle.std.proofs.lemmas.List.Quantifiers.{position-Some}
 use Rattle.exec_terms.specs.declared.phase.Phase.{Phase}
 use Rattle.exec_terms.specs.declared.phase.Phase.TheVariants.{Pending, InProgress, Aborting, Aborted, Completed, Dead}
 use Rattle.exec_terms.specs.declared.work.Work.TheVariants.{Cancel}
 use Rattle.exec_terms.specs.declared.replies.Given.{Given}
-use Rattle.exec_terms.specs.declared.replies.Idle.{Idle}
 use Rattle.exec_terms.specs.Words.{is_pending, is_in_progress, is_aborting, in_flight, is_free, next_step}
 use Rattle.exec_terms.specs.Machine.{State, no_task, task_at, may_start, given, or_start, or_step, or_cancel, next_work, started}
 use Rattle.exec_terms.proofs.Begin.{is_pending_is, is_in_progress_is, is_aborting_is}

@@ -269,9 +269,9 @@ fn kill_reply(exec: &mut Exec, broker: u32) -> Reply {
 }
 
 fn launch_reply(rt: &impl Abort, alloc: Global, exec: &mut Exec) -> Reply {
-    let none = Vec::new(alloc);
-    assert!(rt; exec.can_launch(&none));
-    match exec.launch(alloc, &none) {
+    let nothing = Vec::new(alloc);
+    assert!(rt; exec.can_launch(&nothing));
+    match exec.launch(alloc, &nothing) {
         Ok(()) => none(Kind::Done),
         Err(LaunchFault::Executing(task)) => one(Kind::Executing, task as u64),
         Err(LaunchFault::Memory) => none(Kind::Other),

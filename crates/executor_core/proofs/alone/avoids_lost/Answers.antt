@@ -1,4 +1,4 @@
-use Rattle.std.proofs.Common.{not, get_or, sym, ◌∙◌}
+use Rattle.std.proofs.Common.{not, sym, ◌∙◌}
 use Rattle.std.specs.List.{list_any}
 use Rattle.std.proofs.lemmas.Bool.{not-true, not_from_false}
 use Rattle.plan_terms.specs.Legal.{is_lost}

@@ -1,5 +1,4 @@
 use Rattle.std.proofs.Common.{◌≡◌, ◌++◌, take, drop, map}
-use Rattle.exec_terms.specs.Stops.{killed_by}
 use Rattle.task_planner.specs.Queue.{ended}
 use Rattle.executor_core.specs.Kept.{slot_of}
 use Rattle.executor_core.proofs.change.drop_waiting.Given as goal

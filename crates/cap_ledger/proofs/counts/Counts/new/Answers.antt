@@ -1,4 +1,4 @@
-use Rattle.std.proofs.Common.{◌≡◌, List, true, sym, refl}
+use Rattle.std.proofs.Common.{◌≡◌, true}
 use Rattle.plan_terms.specs.Belongs.{distinct}
 use Rattle.cap_ledger.proofs.Find.{brokers_of, brokers_of-empty}
 use Rattle.cap_ledger.proofs.Changes.{IsEmpty-new}

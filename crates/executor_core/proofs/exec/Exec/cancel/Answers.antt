@@ -1,9 +1,8 @@
-use Rattle.std.proofs.Common.{ap, ◌≡◌, arith}
+use Rattle.std.proofs.Common.{arith}
 use Rattle.exec_terms.specs.declared.work.WorkKind.TheVariants.{Cancel as ForCancel}
 use Rattle.exec_terms.specs.Leases.{cancelled, phase_cancelled}
 use Rattle.exec_terms.proofs.Events.{IsValid-cancel}
 use Rattle.exec_terms.proofs.Calls.{IsValid-same, worth, ended_is, reply_is, phase_is}
-use Rattle.exec_terms.specs.declared.task.Task.{Task}
 use Rattle.executor_core.proofs.Calls.{leaving, left_kept, end_cancelled}
 use Rattle.executor_core.proofs.exec.Exec.cancel.Goals as goal
 

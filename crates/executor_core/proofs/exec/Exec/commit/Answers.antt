@@ -1,9 +1,8 @@
-use Rattle.std.proofs.Common.{ap, arith}
+use Rattle.std.proofs.Common.{arith}
 use Rattle.exec_terms.specs.declared.work.WorkKind.TheVariants.{Commit as ForCommit}
 use Rattle.exec_terms.specs.Leases.{committed}
 use Rattle.exec_terms.proofs.Events.{IsValid-commit}
 use Rattle.exec_terms.proofs.Calls.{IsValid-same, worth, ended_is}
-use Rattle.exec_terms.specs.declared.task.Task.{Task}
 use Rattle.executor_core.proofs.Calls.{leaving, left_kept, end_committed}
 use Rattle.executor_core.proofs.exec.Exec.commit.Goals as goal
 

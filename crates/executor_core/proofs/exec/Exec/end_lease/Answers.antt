@@ -1,7 +1,6 @@
-use Rattle.std.proofs.Common.{sym, ap}
+use Rattle.std.proofs.Common.{sym}
 use Rattle.exec_terms.proofs.Events.{IsValid-end_lease}
 use Rattle.exec_terms.proofs.Calls.{IsValid-same, end_lease_is, end_lease_none}
-use Rattle.exec_terms.specs.declared.task.Task.{Task}
 use Rattle.std.proofs.lemmas.List.Quantifiers.{position-Some}
 use Rattle.exec_terms.specs.Words.{holds}
 use Rattle.exec_terms.specs.Machine.{no_task}

@@ -1,4 +1,4 @@
-use Rattle.std.proofs.Common.{◌≡◌, sym}
+use Rattle.std.proofs.Common.{sym}
 use Rattle.exec_terms.proofs.Launch.{IsValid-launched}
 use Rattle.executor_core.proofs.Launching.{lists_known, kept_launched}
 use Rattle.executor_core.proofs.exec.Exec.launch.Goals as goal

@@ -1,4 +1,4 @@
-use Rattle.std.proofs.Common.{arith, ap, sym}
+use Rattle.std.proofs.Common.{arith, sym}
 use Rattle.exec_terms.proofs.Calls.{given_known}
 use Rattle.executor_core.proofs.Calls.{starting, start_kept}
 use Rattle.executor_core.proofs.exec.Exec.start.Goals as goal
