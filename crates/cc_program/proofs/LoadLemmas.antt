@@ -40,10 +40,10 @@ module _ (loads : ℕ → Option Loads) where
       let rest : List Part = drop (i + 1) ps in
       let same : 0 + length (take i ps) ≡ i = omega (arith, length-take-le i ps (omega arith)) in
       let here : loaded_at (front ++ drop i ps) i (loads i) ≡ front ++ loaded_one (loads i) p ∷ rest =
-          ap (λ (tail : List Part). loaded_at (front ++ tail) i (loads i)) (drop_more ps i d h)
-          ∙ ap (λ n. loaded_at (front ++ p ∷ rest) n (loads i)) (sym long) ∙ loaded_at-at front p rest (loads i) in
+      ap (λ (tail : List Part). loaded_at (front ++ tail) i (loads i)) (drop_more ps i d h)
+      ∙ ap (λ n. loaded_at (front ++ p ∷ rest) n (loads i)) (sym long) ∙ loaded_at-at front p rest (loads i) in
       let grown : loaded_from loads 0 (take (i + 1) ps) ≡ front ++ loaded_one (loads i) p ∷ [] =
-          ap (loaded_from loads 0) (take_more ps i d h) ∙ loaded_from-push 0 (take i ps) p ∙ ap (λ n. front ++ loaded_one (loads n) p ∷ []) same in
+      ap (loaded_from loads 0) (take_more ps i d h) ∙ loaded_from-push 0 (take i ps) p ∙ ap (λ n. front ++ loaded_one (loads n) p ∷ []) same in
       here ∙ sym (append_assoc front (loaded_one (loads i) p ∷ []) rest) ∙ ap (λ (l : List Part). l ++ rest) (sym grown)
 
 -- where a sequence of samples is one longer
@@ -80,8 +80,8 @@ pub loaded-all : (c k : Cluster) (loads : ℕ → Option Loads) (i : ℕ) → i 
     → k ≡ record c { parts = loaded_from loads 0 c.parts }
 loaded-all c k loads i end before =
     before ∙ ap (λ n. record c { parts = loaded_from loads 0 (take n c.parts) ++ drop n c.parts }) end ∙ ap (λ (ps : List Part). record c { parts = ps }) whole
-    where
-      whole : loaded_from loads 0 (take (length c.parts) c.parts) ++ drop (length c.parts) c.parts ≡ loaded_from loads 0 c.parts
-      whole =
-          ap (λ (xs : List Part). loaded_from loads 0 xs ++ drop (length c.parts) c.parts) (take_all (length c.parts) c.parts (omega arith))
-          ∙ ap (λ (xs : List Part). loaded_from loads 0 c.parts ++ xs) (drop_all (length c.parts) c.parts (omega arith)) ∙ append-nil (loaded_from loads 0 c.parts)
+  where
+    whole : loaded_from loads 0 (take (length c.parts) c.parts) ++ drop (length c.parts) c.parts ≡ loaded_from loads 0 c.parts
+    whole =
+        ap (λ (xs : List Part). loaded_from loads 0 xs ++ drop (length c.parts) c.parts) (take_all (length c.parts) c.parts (omega arith))
+        ∙ ap (λ (xs : List Part). loaded_from loads 0 c.parts ++ xs) (drop_all (length c.parts) c.parts (omega arith)) ∙ append-nil (loaded_from loads 0 c.parts)

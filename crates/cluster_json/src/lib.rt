@@ -18,3 +18,6 @@ pub use config::{Caps3, WindowRules};
 pub use file::{ClusterFile, read_cluster};
 pub use refusal::FileRefusal;
 pub use samples::FileSample;
+
+#[cfg(test)]
+mod tests;

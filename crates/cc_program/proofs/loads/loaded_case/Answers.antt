@@ -8,22 +8,22 @@ use Rattle.cc_program.proofs.loads.loaded_case.Goals as goal
 pub load_part-requires-clause-part : goal.load_part-requires-clause-part
 load_part-requires-clause-part c =
     let long : length c.loop-part.case.parts ≡ length c.args.file.now.case.parts =
-        ap (λ (k : Cluster). length k.parts) c.loop-part.invariant
-        ∙ length-front (load_of (window_rules c.args.file.now.rules) (accepted (window_rules c.args.file.now.rules) c.args.file.now.samples.items)) c.args.file.now.case.parts c.loop-part.part (omega (arith, ap length c.parts-end.ensures.value)) in
+    ap (λ (k : Cluster). length k.parts) c.loop-part.invariant
+    ∙ length-front (load_of (window_rules c.args.file.now.rules) (accepted (window_rules c.args.file.now.rules) c.args.file.now.samples.items)) c.args.file.now.case.parts c.loop-part.part (omega (arith, ap length c.parts-end.ensures.value)) in
     omega (arith, ap length c.parts-end.ensures.value)
 
 pub load_part-requires-clause-few : goal.load_part-requires-clause-few
 load_part-requires-clause-few c =
     let long : length c.loop-part.case.parts ≡ length c.args.file.now.case.parts =
-        ap (λ (k : Cluster). length k.parts) c.loop-part.invariant
-        ∙ length-front (load_of (window_rules c.args.file.now.rules) (accepted (window_rules c.args.file.now.rules) c.args.file.now.samples.items)) c.args.file.now.case.parts c.loop-part.part (omega (arith, ap length c.parts-end.ensures.value)) in
+    ap (λ (k : Cluster). length k.parts) c.loop-part.invariant
+    ∙ length-front (load_of (window_rules c.args.file.now.rules) (accepted (window_rules c.args.file.now.rules) c.args.file.now.samples.items)) c.args.file.now.case.parts c.loop-part.part (omega (arith, ap length c.parts-end.ensures.value)) in
     omega (arith, c.parts-end.ensures.few)
 
 pub load_part-requires-clause-parts : goal.load_part-requires-clause-parts
 load_part-requires-clause-parts c =
     let long : length c.loop-part.case.parts ≡ length c.args.file.now.case.parts =
-        ap (λ (k : Cluster). length k.parts) c.loop-part.invariant
-        ∙ length-front (load_of (window_rules c.args.file.now.rules) (accepted (window_rules c.args.file.now.rules) c.args.file.now.samples.items)) c.args.file.now.case.parts c.loop-part.part (omega (arith, ap length c.parts-end.ensures.value)) in
+    ap (λ (k : Cluster). length k.parts) c.loop-part.invariant
+    ∙ length-front (load_of (window_rules c.args.file.now.rules) (accepted (window_rules c.args.file.now.rules) c.args.file.now.samples.items)) c.args.file.now.case.parts c.loop-part.part (omega (arith, ap length c.parts-end.ensures.value)) in
     c.in_ok-windows.ensures.parts ∙ sym long
 
 pub loop-part-preserved : goal.loop-part-preserved

@@ -7,5 +7,5 @@ abbrev pub invariant-loop-sample : goal.invariant-loop-sample
 invariant-loop-sample l = record {
   stands : StandsFor l.windows (fold (and_accepted (window_rules l.file.rules)) [] (take l.sample-index l.sample-items));
   rules : l.windows.rules ≡ window_rules l.file.rules;
-  parts : l.windows.parts ≡ length l.file.case.parts
+  parts : l.windows.parts ≡ length l.file.case.parts;
 }
