@@ -1,8 +1,10 @@
 pub mod Changes
+pub mod Ids
 pub mod Kept
 pub mod Listed
 pub mod Numbered
 pub mod Readings
 pub mod Repetition
 pub mod Sums
+pub mod Tabled
 pub mod Texts

@@ -112,9 +112,16 @@ image-small f (p ∷ ps) (suc i) top small h = image-small f ps i top small (or_
 short-at : (lists : Lists) (i : ℕ) → IsAssignment lists → length (list_of lists i) ≤ 8
 short-at lists i h = elim (cases_lt i (length lists)) as (λ _. length (list_of lists i) ≤ 8) [ inl l ↦ (h.each i [] l).few | inr g ↦ rw (get_or_past lists i [] g) (omega arith) ]
 
+-- no list has more than 8 members
+pub record Short (lists : Lists) : Type 0 where
+  pub each : (i : ℕ) → length (list_of lists i) ≤ 8
+
+pub Short-assignment : (lists : Lists) → IsAssignment lists → Short lists
+Short-assignment lists h = record { each = λ i. short-at lists i h }
+
 -- what a broker carries in all
-pub amount-small : (kind : Amount) (c : Cluster) (b : ℕ) (lists : Lists) → IsCase c → IsAssignment lists → sum_parts (share kind c.parts b) c.parts lists < 2 ^ 49
-amount-small kind c b lists h k =
+sum-below : (kind : Amount) (c : Cluster) (b : ℕ) (lists : Lists) → IsCase c → Short lists → sum_parts (share kind c.parts b) c.parts lists < 2 ^ 49
+sum-below kind c b lists h k =
     let limits = WithinLimits-faultless c.brokers c.parts h.faultless in
     let lead : (i : ℕ) → lead_at kind c.parts i ≤ 4294967295 = λ i. image-small (lead_of kind c.parts) c.parts i 4294967295 (lead-small kind c.parts) limits.light in
     let follow : (i : ℕ) → follow_at kind c.parts i ≤ 4294967295 = λ i. image-small (follow_of kind c.parts) c.parts i 4294967295 (follow-small kind c.parts) limits.light in
@@ -122,8 +129,11 @@ amount-small kind c b lists h k =
       arith,
       limits.few_parts,
       sum_parts-le (lead_of kind c.parts) (follow_of kind c.parts) b 34359738360 c.parts lists
-          (λ i l. list_load-le (lead_at kind c.parts i) (follow_at kind c.parts i) b 4294967295 (list_of lists i) (lead i) (follow i) (short-at lists i k)),
+          (λ i l. list_load-le (lead_at kind c.parts i) (follow_at kind c.parts i) b 4294967295 (list_of lists i) (lead i) (follow i) (k.each i)),
     )
+
+pub amount-small : (kind : Amount) (c : Cluster) (b : ℕ) (lists : Lists) → IsCase c → IsAssignment lists → sum_parts (share kind c.parts b) c.parts lists < 2 ^ 49
+amount-small kind c b lists h k = sum-below kind c b lists h (Short-assignment lists k)
 
 abbrev unit_if : Bool → ℕ
 unit_if b = cond b 1 0
@@ -177,3 +187,24 @@ amount-few kind c b lists h k one =
       sum_parts-le (lead_of kind c.parts) (follow_of kind c.parts) b 8 c.parts lists
           (λ i l. list_load-le (lead_at kind c.parts i) (follow_at kind c.parts i) b 1 (list_of lists i) (lead i) (follow i) (short-at lists i k)),
     )
+
+-- a broker of short lists carries less than 2^49
+pub amount-below : (kind : Amount) (c : Cluster) (b : ℕ) (lists : Lists) → IsCase c → Short lists → amount kind c.parts b lists < 2 ^ 49
+unfolding amount
+amount-below kind c b lists h k = sum-below kind c b lists h k
+
+-- what one short list puts on a broker
+pub list-below : (kind : Amount) (c : Cluster) (i b : ℕ) (list : List ℕ) → IsCase c → length list ≤ 8 → list_load (lead_at kind c.parts i) (follow_at kind c.parts i) b list ≤ 34359738360
+list-below kind c i b list h short =
+    let limits = WithinLimits-faultless c.brokers c.parts h.faultless in
+    list_load-le (lead_at kind c.parts i) (follow_at kind c.parts i) b 4294967295 list
+    (image-small (lead_of kind c.parts) c.parts i 4294967295 (lead-small kind c.parts) limits.light)
+    (image-small (follow_of kind c.parts) c.parts i 4294967295 (follow-small kind c.parts) limits.light) short
+
+-- what a place carries
+pub weight-below : (kind : Amount) (c : Cluster) (i : ℕ) → IsCase c → (lead_at kind c.parts i < 2 ^ 32) × (follow_at kind c.parts i < 2 ^ 32)
+weight-below kind c i h =
+    let limits = WithinLimits-faultless c.brokers c.parts h.faultless in
+    let lead = image-small (lead_of kind c.parts) c.parts i 4294967295 (lead-small kind c.parts) limits.light in
+    let follow = image-small (follow_of kind c.parts) c.parts i 4294967295 (follow-small kind c.parts) limits.light in
+    (omega (arith, lead), omega (arith, follow))

@@ -1,3 +1,4 @@
 pub mod Amounts
 pub mod Changed
 pub mod Places
+pub mod Tables

@@ -100,7 +100,7 @@ fn list_amount(weights: Weights, list: &[u32], broker: u32) -> u64
     }
 }
 
-/// What the broker of an id carries in all.
+/// What the broker of an id carries in all, added up afresh: tests hold the table against it.
 pub fn amount_of(case: &Case, lists: &Assign, kind: Amount, broker: u32) -> u64
     requires one_each { length lists.now ≡ length case.now.parts }
     requires range { InRange kind case.now.parts }

@@ -8,7 +8,8 @@ ghost use Rattle.plan_terms.specs.Load.{count, leaders, load, leader_in, potenti
 ghost use Rattle.load_model.specs.Amounts.{InRange, amount, counts_places};
 ghost use Rattle.load_model.specs.Places.{id_at, topic_at};
 
-use crate::amounts::{Amount, amount_of};
+use crate::amounts::Amount;
+use crate::table::Table;
 use crate::{Assign, Case};
 use plan_terms::Memory;
 use std::alloc::Global;
@@ -17,21 +18,23 @@ use std::marker::Model;
 /// The lists of a plan in the making, which actions change, with the cluster whose loads they put on brokers.
 ///
 /// Brokers, partitions and topics go by their places in the case that the book was made for, which it keeps a copy of.
+/// What brokers carry stands in a table that each change keeps, so no reader looks at the lists.
 #[derive(Drop)]
 pub struct LoadBook {
     case: Case,
     lists: Assign,
+    table: Table,
 }
 
 impl Model for LoadBook {
-    ghost use Rattle.std.specs.Prelude.{◌≡◌, length};
     ghost use Rattle.plan_terms.specs.Belongs.{Book};
+    ghost use Rattle.load_model.specs.Tables.{IsKept};
 
     ghost Value = { Book };
 
     ghost view = { λ b. record { cluster = b.case; lists = b.lists } };
 
-    ghost invariant = { λ b. length b.lists ≡ length b.case.parts };
+    ghost invariant = { λ b. IsKept b.case b.lists b.table };
 }
 
 impl LoadBook {
@@ -43,6 +46,7 @@ impl LoadBook {
         Ok(LoadBook {
             case: case.copy(alloc)?,
             lists: lists.copy(alloc)?,
+            table: Table::new(alloc, case, lists)?,
         })
     }
 
@@ -88,8 +92,9 @@ impl LoadBook {
         ensures small { result < 2 ^ 49 }
         ensures few { counts_places kind ≡ true → result ≤ 80000 }
     {
-        let id = self.case.brokers()[broker].id;
-        amount_of(&self.case, &self.lists, kind, id)
+        let _parts = self.case.parts();
+        let _assignment = self.lists.lists();
+        self.table.amount(&self.case, kind, broker)
     }
 
     /// The load of a resource on a broker: the leader's of each partition that it leads, the follower's at each other
@@ -160,6 +165,10 @@ impl LoadBook {
         requires known { IsTrue (is_known case.now broker) }
         ensures { self.new ≡ record self.old { lists = slice_set self.old.lists part (slice_set (list_of self.old.lists part) place broker) } }
     {
+        let _parts = self.case.parts();
+        let _assignment = self.lists.lists();
+        let old = self.lists.list(part)[place];
+        self.table.shift(&self.case, part, place == 0, old, broker);
         self.lists.put(part, place, broker);
     }
 
@@ -169,6 +178,13 @@ impl LoadBook {
         requires place { place < length (list_of self.old.lists part) }
         ensures { self.new ≡ record self.old { lists = slice_set self.old.lists part (exchange_at place (list_of self.old.lists part)) } }
     {
+        let _parts = self.case.parts();
+        let _assignment = self.lists.lists();
+        let first = self.lists.list(part)[0];
+        let member = self.lists.list(part)[place];
+        self.table
+            .shift(&self.case, part, place == 0, member, first);
+        self.table.shift(&self.case, part, true, first, member);
         self.lists.exchange(part, place);
     }
 }

@@ -4,7 +4,7 @@ ghost use Rattle.std.specs.List.{All};
 ghost use Rattle.plan_terms.specs.Cluster.{broker_of};
 ghost use Rattle.plan_terms.specs.Faults.{IsCase, case_fault, topics};
 ghost use Rattle.load_model.specs.Changed.{with_state, with_loads, with_excluded};
-ghost use Rattle.load_model.specs.Places.{AreTopicPlaces, topic_at, topic_of};
+ghost use Rattle.load_model.specs.Places.{AreTopicPlaces, id_at, topic_at, topic_of};
 
 use crate::limits::broken_limit;
 use crate::repeats::{broker_ids, part_repeat};
@@ -135,7 +135,8 @@ impl Case {
 
     /// The place of the broker of this id.
     pub fn place(&self, id: u32) -> Option<usize>
-        ensures { result ≡ position (λ b. b.id == id) self.now.brokers }
+        ensures place { result ≡ position (λ b. b.id == id) self.now.brokers }
+        ensures only { (k : ℕ) → k < length self.now.brokers → id_at self.now.brokers k ≡ id → result ≡ Some k }
     {
         self.ids.get_index_of(&id)
     }
@@ -150,9 +151,10 @@ impl Case {
         }
     }
 
-    /// The number of topics.
+    /// The number of topics, at most 1,000.
     pub fn topics(&self) -> usize
-        ensures { result ≡ length (topics self.now.parts) }
+        ensures value { result ≡ length (topics self.now.parts) }
+        ensures few { result ≤ 1000 }
     {
         self.topics.count
     }

@@ -7,6 +7,7 @@ mod book;
 mod case;
 mod limits;
 mod repeats;
+mod table;
 #[cfg(test)]
 mod tests;
 mod topics;

@@ -4,6 +4,7 @@ ghost use Rattle.std.specs.List.{All};
 ghost use Rattle.plan_terms.specs.Belongs.{Belongs};
 
 use super::*;
+use crate::amounts::{Amount, amount_of};
 use std::alloc::Global;
 use std::process::Abort;
 use std::test::Fail;
@@ -150,6 +151,22 @@ fn follows_a_put_and_an_exchange(rt: HostRuntime) -> Result<(), Fail> {
     assert_eq!(rt; loads(&rt, &book, 1), [10, 20, 0, 40, 300, 0]);
     assert_eq!(rt; loads(&rt, &book, 2), [201, 402, 300, 804, 3330, 200]);
     assert_eq!(rt; counts(&rt, &book, 2), [3, 1, 2, 1]);
+    Ok(())
+}
+
+#[test]
+fn table_is_what_the_lists_add_up_to(rt: HostRuntime) -> Result<(), Fail> {
+    let alloc = rt.alloc();
+    let case = case(alloc)?;
+    let mut book = book(alloc, &case)?;
+    put(&rt, &mut book, &case, 0, 1, 7);
+    exchange(&rt, &mut book, &case, 1, 1);
+    for broker in 0..3 {
+        assert!(rt; broker < book.case().brokers().len());
+        let id = book.case().brokers()[broker].id;
+        let afresh = amount_of(book.case(), book.lists(), Amount::PotentialOut, id);
+        assert_eq!(rt; book.potential_out(broker), u128::from(afresh));
+    }
     Ok(())
 }
 

@@ -1,0 +1,58 @@
+-- The table of a book: a row for each broker, with a number for each kind of amount.
+use Rattle.std.specs.Prelude.{◌≡◌, ◌+◌, ◌<◌, ◌==◌, ℕ, Bool, List, [], length, get_or, nat_lt, if◌then◌else◌}
+use Rattle.plan_terms.specs.Cluster.{Cluster, Lists}
+use Rattle.plan_terms.specs.Faults.{topics}
+use Rattle.plan_terms.specs.declared.cluster.Part.{Part}
+use Rattle.load_model.specs.Amounts.{InRange, amount, lead_at, follow_at}
+use Rattle.load_model.specs.Places.{id_at}
+use Rattle.load_model.specs.declared.amounts.Amount.{Amount}
+use Rattle.load_model.specs.declared.amounts.Amount.TheVariants.{Load, Replicas, Leaders, PotentialOut, LeaderIn, OfTopic}
+
+-- the place of a kind in a row
+abbrev pub column : Amount → ℕ
+column (Load r) = r
+column Replicas = 4
+column Leaders = 5
+column PotentialOut = 6
+column LeaderIn = 7
+column (OfTopic t) = t + 8
+
+-- the kind at one of the first eight places
+abbrev pub kind_at : ℕ → Amount
+kind_at j = if nat_lt j 4 then Load j else (if j == 4 then Replicas else (if j == 5 then Leaders else (if j == 6 then PotentialOut else LeaderIn)))
+
+-- what the first place, or each other place, of the list of the partition at place p carries
+abbrev pub weight_at : Amount → List Part → ℕ → Bool → ℕ
+weight_at kind parts p first = if first then lead_at kind parts p else follow_at kind parts p
+
+-- what such a place of the broker of this id puts on broker b
+abbrev pub put_on : ℕ → ℕ → Amount → List Part → ℕ → Bool → ℕ
+put_on id b kind parts p first = if id == b then weight_at kind parts p first else 0
+
+-- what a row lacks afterwards and what it has more, by kind
+pub record IsChanged (parts : List Part) (minus plus : Amount → ℕ) (old new : List ℕ) : Type 0 where
+  pub long : length new ≡ length old
+  pub each : (kind : Amount) → InRange kind parts → get_or new (column kind) 0 + minus kind ≡ get_or old (column kind) 0 + plus kind
+
+-- the row has what broker b carries
+pub record IsRow (parts : List Part) (b : ℕ) (lists : Lists) (row : List ℕ) : Type 0 where
+  pub long : length row ≡ length (topics parts) + 8
+  pub each : (kind : Amount) → InRange kind parts → get_or row (column kind) 0 ≡ amount kind parts b lists
+
+-- each broker's row has what it carries
+pub record IsTable (c : Cluster) (lists : Lists) (rows : List (List ℕ)) : Type 0 where
+  pub one_each : length rows ≡ length c.brokers
+  pub each : (k : ℕ) → k < length c.brokers → IsRow c.parts (id_at c.brokers k) lists (get_or rows k [])
+
+-- each broker's row is as long as there are kinds
+abbrev pub AreLong : Cluster → List (List ℕ) → Type 0
+AreLong c rows = (k : ℕ) → k < length c.brokers → length (get_or rows k []) ≡ length (topics c.parts) + 8
+
+-- each number of each broker's row is below the top
+abbrev pub AreBelow : ℕ → Cluster → List (List ℕ) → Type 0
+AreBelow top c rows = (k : ℕ) → k < length c.brokers → (kind : Amount) → InRange kind c.parts → get_or (get_or rows k []) (column kind) 0 < top
+
+-- what a book keeps: one list for each partition, and the table of what they put on brokers
+pub record IsKept (c : Cluster) (lists : Lists) (rows : List (List ℕ)) : Type 0 where
+  pub one_each : length lists ≡ length c.parts
+  pub table_is : IsTable c lists rows
