@@ -1,10 +1,16 @@
 // What a goal says of the lists and of an action.
-ghost use Rattle.std.specs.Prelude.{◌≡◌, ◌<◌, ◌≤◌, ◌^◌, ◌↔◌, IsTrue, length};
+ghost use Rattle.goal_terms.specs.Pairs.{ColdPairs, IdleTrades};
+ghost use Rattle.goal_terms.specs.PerBroker.{id_at};
+ghost use Rattle.goal_terms.specs.Quantity.{Weights, part_weight};
+ghost use Rattle.goal_terms.specs.declared.heat.Heat.{Heat};
+ghost use Rattle.std.specs.Prelude.{◌≡◌, ◌<◌, ◌≤◌, ◌^◌, ◌↔◌, ℕ, IsTrue, IfSome, Option, option_map, length};
 ghost use Rattle.plan_terms.specs.Belongs.{Belongs, IsBookOf};
 ghost use Rattle.plan_terms.specs.Cluster.{Cluster, Lists};
+ghost use Rattle.plan_terms.specs.Faults.{IsCase};
 ghost use Rattle.plan_terms.specs.Fits.{fits, targets_known};
 ghost use Rattle.plan_terms.specs.Goal.{Meaning, Accepts, Lessens, measure};
 
+use goal_terms::Heat;
 use load_model::{Case, LoadBook};
 use plan_terms::Action;
 
@@ -15,6 +21,12 @@ pub trait Goal {
 
     /// The goal was made for the cluster.
     ghost made_for: { Self → Cluster → Type 0 };
+
+    /// Where the quantity of the broker of an id lies.
+    ghost heat_at: { Self → Cluster → Lists → ℕ → Heat };
+
+    /// What the places of a list add to a broker's quantity, for a goal that has one.
+    ghost weighs: { Self → Option Weights };
 
     /// Whether a plan fails where the goal stays broken.
     fn is_hard(&self, case: &Case) -> bool
@@ -49,8 +61,29 @@ pub trait Goal {
         requires known { IsTrue (targets_known case.now action) }
         ensures { IsTrue result ↔ Lessens (meaning self.now case.now) book.now.lists action };
 
+    /// Where the quantity of the broker at a place lies, and so which of its actions may lessen the measure.
+    fn heat(&self, case: &Case, book: &LoadBook, broker: usize) -> Heat
+        requires made { made_for self.now case.now }
+        requires belongs { IsBookOf case.now book.now }
+        requires broker { broker < length case.now.brokers }
+        ensures { result ≡ heat_at self.now case.now book.now.lists (id_at case.now.brokers broker) };
+
+    /// What one replica of a partition adds to its broker's quantity, as the leader or as a follower. `None` where the
+    /// goal has no quantity of brokers.
+    fn weight(&self, case: &Case, part: u32, leads: bool) -> Option<u64>
+        requires made { made_for self.now case.now }
+        requires part { part < length case.now.parts }
+        ensures { result ≡ option_map (λ w. part_weight w case.now.parts part leads) (weighs self.now) };
+
     /// Every measure is below 2^120.
-    ghost small: { (g : Self) (c : Cluster) (lists : Lists) → made_for g c → length c.parts ≤ 10000 → Belongs c lists → measure (meaning g c) lists < 2 ^ 120 };
+    ghost small: { (g : Self) (c : Cluster) (lists : Lists) → made_for g c → IsCase c → Belongs c lists → measure (meaning g c) lists < 2 ^ 120 };
+
+    /// An action of two cold brokers doesn't lessen the measure.
+    ghost cold_pairs: { (g : Self) (c : Cluster) (lists : Lists) → made_for g c → IsCase c → Belongs c lists → ColdPairs (meaning g c) (heat_at g c lists) lists };
+
+    /// A trade of equal weights doesn't lessen it; nor does one that gives no less to a broker that isn't below its bounds
+    /// and takes no less from one that isn't above them.
+    ghost idle_trades: { (g : Self) (c : Cluster) (lists : Lists) → made_for g c → IsCase c → Belongs c lists → IfSome (weighs g) (IdleTrades (meaning g c) (heat_at g c lists) c.parts lists) };
 }
 
 /// The sum of a goal's excesses, below 2^120. The goal is met where it is 0.

@@ -1,11 +1,14 @@
 // Goals with one unit for each partition, whose excess is a number of its list.
-ghost use Rattle.std.specs.Prelude.{◌≡◌, ℕ, Bool, ◌<◌, ◌≤◌, ◌^◌, ◌↔◌, IsTrue, IfOk, List, length, take, slice_set, false, ◌+◌};
+ghost use Rattle.goal_terms.specs.Heats.{partition_heat};
+ghost use Rattle.goal_terms.specs.PerBroker.{id_at};
+ghost use Rattle.std.specs.List.{list_any};
+ghost use Rattle.std.specs.Prelude.{◌≡◌, ℕ, Bool, ◌<◌, ◌≤◌, ◌^◌, ◌↔◌, ◌&&◌, nat_lt, IsTrue, IfOk, List, length, take, slice_set, false, ◌+◌, None};
 ghost use Rattle.plan_terms.specs.Cluster.{Cluster, Lists, list_of, has, leads};
 ghost use Rattle.plan_terms.specs.Effect.{replace, exchange_first, after};
 ghost use Rattle.plan_terms.specs.Goal.{Meaning, Accepts, Lessens, per_partition};
 
-use load_model::{Case, LoadBook, Memory};
-use move_actions::{Goal, place_of};
+use load_model::{Case, LoadBook, Memory, Replicas};
+use move_actions::{Goal, Heat, place_of};
 use plan_terms::Action;
 use std::alloc::Global;
 
@@ -104,12 +107,32 @@ fn excess_led_by<R: ListRule>(rule: &R, case: &Case, list: &[u32], to: u32) -> u
     rule.excess_of(case, &copy[..list.len()])
 }
 
+// Whether the broker of an id is a member of a list that exceeds the rule.
+fn holds_excess<R: ListRule>(rule: &R, case: &Case, lists: &[Replicas], broker: u32) -> bool
+    requires { R.made_for rule.now case.now }
+    ensures { result ≡ list_any (λ list. has list broker && nat_lt 0 (R.list_excess rule.now case.now list)) lists.now }
+{
+    for list in lists {
+        let members = list.as_slice();
+        if members.contains(&broker) && rule.excess_of(case, members) > 0 {
+            return true;
+        }
+    }
+    false
+}
+
 impl<R: ListRule> Goal for PartitionGoal<R> {
+    ghost use Rattle.goal_terms.proofs.CaseLemmas.{Limits-case};
+    ghost use Rattle.goal_terms.proofs.PartitionHeat.{partition-cold_pairs};
     ghost use Rattle.plan_terms.proofs.PartitionLemmas.{per_partition-fits_120_bits};
 
     ghost meaning = { λ g c. per_partition (R.hard g.rule) (R.list_excess g.rule c) c };
 
     ghost made_for = { λ g c. R.made_for g.rule c };
+
+    ghost heat_at = { λ g c lists k. partition_heat (R.list_excess g.rule c) lists k };
+
+    ghost weighs = { λ _. None };
 
     fn is_hard(&self, _case: &Case) -> bool {
         self.rule.is_hard()
@@ -176,5 +199,22 @@ impl<R: ListRule> Goal for PartitionGoal<R> {
         }
     }
 
-    ghost small = { λ g c lists _ few fits. per_partition-fits_120_bits (R.hard g.rule) (R.list_excess g.rule c) c lists fits few (R.within g.rule c) };
+    fn heat(&self, case: &Case, book: &LoadBook, broker: usize) -> Heat {
+        let id = case.brokers()[broker].id;
+        if holds_excess(&self.rule, case, book.lists().lists(), id) {
+            Heat::Other
+        } else {
+            Heat::Cold
+        }
+    }
+
+    fn weight(&self, _case: &Case, _part: u32, _leads: bool) -> Option<u64> {
+        None
+    }
+
+    ghost small = { λ g c lists _ is_case fits. let limits = Limits-case c is_case in per_partition-fits_120_bits (R.hard g.rule) (R.list_excess g.rule c) c lists fits limits.few_parts (R.within g.rule c) };
+
+    ghost cold_pairs = { λ g c lists _ _ fits. partition-cold_pairs (R.list_excess g.rule c) (R.hard g.rule) c lists fits };
+
+    ghost idle_trades = { λ _ _ _ _ _ _. tt };
 }
