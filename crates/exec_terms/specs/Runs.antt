@@ -74,10 +74,6 @@ abbrev pub CanAllHappen : State → List Event → Type 0
 CanAllHappen s [] = Unit {0}
 CanAllHappen s (e ∷ es) = CanHappen s e × CanAllHappen (after_event s e) es
 
--- caps that no execution reaches
-abbrev pub greatest_caps : Caps
-greatest_caps = record { broker = 4294967295; cluster = 4294967295; leader = 4294967295 }
-
 -- the brokers, each with whether it is among the dead ones
 abbrev pub hosts_of : List ℕ → List ℕ → List Host
 hosts_of brokers dead = map (λ b. record { id = b; dead = has dead b }) brokers

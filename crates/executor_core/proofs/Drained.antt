@@ -11,6 +11,8 @@ use Rattle.plan_terms.specs.Change.{proposals}
 use Rattle.plan_terms.specs.declared.lists.Proposal.{Proposal}
 use Rattle.exec_terms.specs.Words.{is_unfinished, goes_on, is_free, is_on}
 use Rattle.exec_terms.specs.Machine.{State, no_task, task_at, next_work, after_take, any_unfinished, first_unfinished, list_by, list_now, lists_now}
+use Rattle.exec_terms.specs.declared.brokers.Caps.{Caps}
+use Rattle.exec_terms.specs.declared.brokers.Host.{Host}
 use Rattle.exec_terms.specs.declared.phase.Phase.{Phase}
 use Rattle.exec_terms.specs.declared.phase.Phase.TheVariants.{Pending, InProgress, Aborting, Aborted, Completed, Dead}
 use Rattle.exec_terms.specs.declared.replies.Given.{Given}
@@ -35,7 +37,7 @@ completed_is Aborted h n = absurd (false≢true h)
 completed_is Completed h n = refl
 completed_is Dead h n = absurd (false≢true h)
 
-module _ (lists : Lists) (ps : List Proposal) (s : State) (b : IsBetweenRounds lists ps s) where
+module _ (lists : Lists) (ps : List Proposal) (caps : Caps) (hosts : List Host) (s : State) (b : IsBetweenRounds lists ps caps hosts s) where
   -- where no work is given, no task is unfinished
   pub idle_is_drained : (reason : Idle) → ◌≡◌ {A = Result Given Idle} (Err reason) (next_work s) → first_unfinished s ≡ None
   idle_is_drained reason e = elim (cases_Bool (any_unfinished s.tasks)) [
@@ -48,11 +50,11 @@ module _ (lists : Lists) (ps : List Proposal) (s : State) (b : IsBetweenRounds l
   idle_leaves_drained s' reason e took = rw (took, ← e) (idle_is_drained reason e)
 
   -- an execution goes on from its own base and tasks
-  pub own_rounds : IsBetweenRounds s.base (map proposal_of s.tasks) s
-  own_rounds = record { valid = b.valid; base_is = refl; tasks_are = refl; rest = b.rest; few = b.few }
+  pub own_rounds : IsBetweenRounds s.base (map proposal_of s.tasks) s.caps s.hosts s
+  own_rounds = record { valid = b.valid; base_is = refl; tasks_are = refl; caps_are = refl; hosts_are = refl; rest = b.rest; few = b.few }
 
-  pub later_rounds : (s' : State) → IsBetweenRounds s.base (map proposal_of s.tasks) s' → IsBetweenRounds lists ps s'
-  later_rounds s' h = record { valid = h.valid; base_is = h.base_is ∙ b.base_is; tasks_are = h.tasks_are ∙ b.tasks_are; rest = h.rest; few = h.few }
+  pub later_rounds : (s' : State) → IsBetweenRounds s.base (map proposal_of s.tasks) s.caps s.hosts s' → IsBetweenRounds lists ps caps hosts s'
+  later_rounds s' h = record { valid = h.valid; base_is = h.base_is ∙ b.base_is; tasks_are = h.tasks_are ∙ b.tasks_are; caps_are = h.caps_are ∙ b.caps_are; hosts_are = h.hosts_are ∙ b.hosts_are; rest = h.rest; few = h.few }
 
   pub all_completed : first_unfinished s ≡ None → All (λ t. t.phase ≡ Completed) s.tasks
   all_completed none = λ k d l. completed_is (get_or s.tasks k d).phase (b.rest k d l).phase (position-None (λ t. is_unfinished t.phase) s.tasks k d none l)
@@ -60,7 +62,7 @@ module _ (lists : Lists) (ps : List Proposal) (s : State) (b : IsBetweenRounds l
 no_change : Proposal
 no_change = record { part = 0; before = []; after = [] }
 
-module _ (before after : Lists) (same : length before ≡ length after) (s : State) (b : IsBetweenRounds before (proposals before after) s) (none : first_unfinished s ≡ None) where
+module _ (before after : Lists) (same : length before ≡ length after) (caps : Caps) (hosts : List Host) (s : State) (b : IsBetweenRounds before (proposals before after) caps hosts s) (none : first_unfinished s ≡ None) where
   list_is : (p : ℕ) → p < length before → list_now s p ≡ list_of after p
   list_is p l = by (position (is_on p) s.tasks) refl where
     by : (o : Option ℕ) → position (is_on p) s.tasks ≡ o → list_by s p o ≡ list_of after p
@@ -74,7 +76,7 @@ module _ (before after : Lists) (same : length before ≡ length after) (s : Sta
         let read : get_or (map proposal_of s.tasks) i no_change ≡ proposal_of (task_at s.tasks i) = get_or-map proposal_of s.tasks i no_task no_change f.0 in
         let leads : (task_at s.tasks i).after ≡ list_of after (task_at s.tasks i).part = rw read at (all i no_change m) in
         let on : (task_at s.tasks i).part ≡ p = eqb-true (task_at s.tasks i).part p f.1 in
-        rw (all_completed before (proposals before after) s b none i no_task f.0) (leads ∙ ap (λ (n : ℕ). list_of after n) on)
+        rw (all_completed before (proposals before after) caps hosts s b none i no_task f.0) (leads ∙ ap (λ (n : ℕ). list_of after n) on)
 
   pub lists_are : lists_now s ≡ after
   lists_are = ext_get_or [] (lists_now s) after (rw (length-each_below (list_now s) (length s.base), b.base_is) same) (λ k l.

@@ -112,7 +112,7 @@ module _ (c : Cluster) (before after : Lists) (caps : Caps) (case : IsCase c) (b
     alive = proposals_all before after (λ q. All (λ (h : Host). h.dead ≡ true → needs (task_of chunks q) h.id ≡ false) hosts) none_needed;
   }
 
-  pub rounds_begin : 1 ≤ caps.broker → 1 ≤ caps.cluster → 1 ≤ caps.leader → IsBetweenRounds before (proposals before after) (after_launch new (proposals before after))
+  pub rounds_begin : 1 ≤ caps.broker → 1 ≤ caps.cluster → 1 ≤ caps.leader → IsBetweenRounds before (proposals before after) caps hosts (after_launch new (proposals before after))
   rounds_begin b m l =
       let s : State = new in
       let valid = IsValid-launch s (proposals before after) can_launch (IsValid-new before chunks caps hosts (few_chunks c case) b m l) in
@@ -122,6 +122,8 @@ module _ (c : Cluster) (before after : Lists) (caps : Caps) (case : IsCase c) (b
             let m : k < length before = rw (length-each_below (list_now s) (length before)) at l in
             get_or-each_below (list_now s) (length before) k [] m);
         tasks_are = proposals_again chunks (proposals before after);
+        caps_are = refl;
+        hosts_are = refl;
         rest = All-map IsAtRest (task_of chunks) (proposals before after) (λ k d l. record { lease = refl; phase = refl });
         few = omega (arith, few_works _ valid);
       }
@@ -129,5 +131,5 @@ module _ (c : Cluster) (before after : Lists) (caps : Caps) (case : IsCase c) (b
   -- the same, for the executor's states by what is known of them
   pub begun : (s s' : State) (ps : List Proposal) → 1 ≤ caps.broker → 1 ≤ caps.cluster → 1 ≤ caps.leader
       → s ≡ new → ps ≡ proposals before after → s' ≡ after_launch s ps
-      → IsBetweenRounds before (proposals before after) s'
+      → IsBetweenRounds before (proposals before after) caps hosts s'
   begun s s' ps b m l is all launched = rw (launched, is, all) (rounds_begin b m l)

@@ -14,6 +14,8 @@ use Rattle.exec_terms.specs.Machine.{State, no_task, task_at, may_start, given, 
 use Rattle.exec_terms.specs.Leases.{test_lease, ended, one_copied, committed, after_copied, after_commit}
 use Rattle.exec_terms.specs.Valid.{IsValid, work_left}
 use Rattle.exec_terms.specs.Runs.{Take, IsAnswered}
+use Rattle.exec_terms.specs.declared.brokers.Caps.{Caps}
+use Rattle.exec_terms.specs.declared.brokers.Host.{Host}
 use Rattle.exec_terms.specs.declared.phase.Phase.{Phase}
 use Rattle.exec_terms.specs.declared.phase.Phase.TheVariants.{Pending, InProgress, Aborting, Aborted, Completed, Dead}
 use Rattle.exec_terms.specs.declared.work.WorkKind.{WorkKind}
@@ -96,16 +98,18 @@ answered : (r : Result ℕ LeaseFault) (i : ℕ) → r ≡ Ok i → IsAnswered r
 answered (Ok j) i e = tt
 answered (Err fault) i e = cc
 
-module _ (lists : Lists) (proposals : List Proposal) where
+module _ (lists : Lists) (proposals : List Proposal) (caps : Caps) (hosts : List Host) where
   -- one task has changed, and is at rest again
-  between : (s s' : State) (g : Given) (u : Task) → IsBetweenRounds lists proposals s → IsStep s g
+  between : (s s' : State) (g : Given) (u : Task) → IsBetweenRounds lists proposals caps hosts s → IsStep s g
       → s' ≡ record s { tasks = set s.tasks g.task u; leases = g.lease }
       → proposal_of u ≡ proposal_of (task_at s.tasks g.task) → IsAtRest u → IsValid s' → work_left s' < work_left s
-      → IsBetweenRounds lists proposals s'
+      → IsBetweenRounds lists proposals caps hosts s'
   between s s' g u b i e same rest v less = record {
     valid = v;
     base_is = rw e b.base_is;
     tasks_are = rw e (map-set_same proposal_of s.tasks g.task u no_task same ∙ b.tasks_are);
+    caps_are = rw e b.caps_are;
+    hosts_are = rw e b.hosts_are;
     rest = rw e (All-set IsAtRest s.tasks g.task u rest b.rest);
     few = let n : s'.leases ≡ s.leases + 1 = ap (λ (x : State). x.leases) e ∙ i.lease in omega (arith, b.few, less, n);
   }
@@ -113,10 +117,10 @@ module _ (lists : Lists) (proposals : List Proposal) where
   -- what a round leaves
   pub record IsRound (s : State) (g : Given) : Type 0 where
     pub out : IsOut (after_take s) g
-    pub next : IsBetweenRounds lists proposals (after_report (after_take s) g.lease g.work)
+    pub next : IsBetweenRounds lists proposals caps hosts (after_report (after_take s) g.lease g.work)
     pub less : work_left (after_report (after_take s) g.lease g.work) < work_left s
 
-  pub round : (s : State) (g : Given) → IsBetweenRounds lists proposals s → ◌≡◌ {A = Result Given Idle} (Ok g) (next_work s) → IsRound s g
+  pub round : (s : State) (g : Given) → IsBetweenRounds lists proposals caps hosts s → ◌≡◌ {A = Result Given Idle} (Ok g) (next_work s) → IsRound s g
   round s g b e = by g.work refl where
     i : IsStep s g
     i = step_given s g b.rest e
@@ -162,9 +166,9 @@ module _ (lists : Lists) (proposals : List Proposal) where
     by Cancel h = absurd (true≢false (rw h at no_cancel))
 
   -- the same, for the executor's states by what is known of them
-  pub round_leaves : (s s' s'' : State) (g : Given) → IsBetweenRounds lists proposals s → ◌≡◌ {A = Result Given Idle} (Ok g) (next_work s) → s' ≡ after_take s → s'' ≡ after_report s' g.lease g.work
-      → IsBetweenRounds lists proposals s'' × (work_left s'' < work_left s)
+  pub round_leaves : (s s' s'' : State) (g : Given) → IsBetweenRounds lists proposals caps hosts s → ◌≡◌ {A = Result Given Idle} (Ok g) (next_work s) → s' ≡ after_take s → s'' ≡ after_report s' g.lease g.work
+      → IsBetweenRounds lists proposals caps hosts s'' × (work_left s'' < work_left s)
   round_leaves s s' s'' g b e took told = let r = round s g b e in rw (told, took) (r.next, r.less)
 
-  pub round_is_out : (s s' : State) (g : Given) → IsBetweenRounds lists proposals s → ◌≡◌ {A = Result Given Idle} (Ok g) (next_work s) → s' ≡ after_take s → IsOut s' g
+  pub round_is_out : (s s' : State) (g : Given) → IsBetweenRounds lists proposals caps hosts s → ◌≡◌ {A = Result Given Idle} (Ok g) (next_work s) → s' ≡ after_take s → IsOut s' g
   round_is_out s s' g b e took = rw took (round s g b e).out

@@ -10,6 +10,7 @@ use Rattle.exec_terms.specs.Leases.{test_lease, after_copied, after_commit, afte
 use Rattle.exec_terms.specs.Valid.{IsValid, work_left}
 use Rattle.exec_terms.specs.Runs.{new_state, hosts_of}
 use Rattle.exec_terms.specs.declared.brokers.Caps.{Caps}
+use Rattle.exec_terms.specs.declared.brokers.Host.{Host}
 use Rattle.exec_terms.specs.declared.phase.Phase.{Phase}
 use Rattle.exec_terms.specs.declared.phase.Phase.TheVariants.{Pending, InProgress, Aborting, Aborted, Completed, Dead}
 use Rattle.exec_terms.specs.declared.work.WorkKind.{WorkKind}
@@ -37,12 +38,14 @@ pub record IsAtRest (t : Task) : Type 0 where
   pub lease : t.lease ≡ None
   pub phase : (goes_on t.phase || is_completed t.phase) ≡ true
 
--- between two rounds of an execution of these proposals on these lists: each task is at rest, and few leases were and will
--- be given
-pub record IsBetweenRounds (lists : Lists) (proposals : List Proposal) (s : State) : Type 0 where
+-- between two rounds of an execution of these proposals on these lists, within these caps and on these brokers: each task is
+-- at rest, and few leases were and will be given
+pub record IsBetweenRounds (lists : Lists) (proposals : List Proposal) (caps : Caps) (hosts : List Host) (s : State) : Type 0 where
   pub valid : IsValid s
   pub base_is : s.base ≡ lists
   pub tasks_are : map proposal_of s.tasks ≡ proposals
+  pub caps_are : s.caps ≡ caps
+  pub hosts_are : s.hosts ≡ hosts
   pub rest : All IsAtRest s.tasks
   pub few : s.leases + work_left s ≤ 80050000
 

@@ -127,7 +127,7 @@ pub fn launched(
     requires before { Belongs case.now before.now }
     requires after { Belongs case.now after.now }
     requires no_lost { All (λ list. list_any (is_lost case.now) list ≡ false) after.now }
-    ensures { IfOk result (IsBetweenRounds before.now (proposals before.now after.now)) }
+    ensures { IfOk result (IsBetweenRounds before.now (proposals before.now after.now) caps (opening case.now before.now caps).hosts) }
 {
     let mut exec = opened(alloc, case, caps, before)?;
     let changes = proposals(alloc, before, after)?;
@@ -157,8 +157,8 @@ fn report(exec: &mut Exec, given: Given)
 
 // Takes work and reports it done, until nothing is left.
 fn drain(exec: &mut Exec)
-    requires { IsBetweenRounds exec.old.base (map proposal_of exec.old.tasks) exec.old }
-    ensures rounds { IsBetweenRounds exec.old.base (map proposal_of exec.old.tasks) exec.new }
+    requires { IsBetweenRounds exec.old.base (map proposal_of exec.old.tasks) exec.old.caps exec.old.hosts exec.old }
+    ensures rounds { IsBetweenRounds exec.old.base (map proposal_of exec.old.tasks) exec.old.caps exec.old.hosts exec.new }
     ensures drained { first_unfinished exec.new ≡ None }
 {
     while let Ok(given) = exec.take() {
@@ -185,6 +185,8 @@ pub fn carry_out(
     ensures lists { IfOk result (λ exec. lists_now exec ≡ after.now) }
     ensures base { IfOk result (λ exec. exec.base ≡ before.now) }
     ensures tasks { IfOk result (λ exec. map proposal_of exec.tasks ≡ proposals before.now after.now) }
+    ensures caps { IfOk result (λ exec. exec.caps ≡ caps) }
+    ensures hosts { IfOk result (λ exec. exec.hosts ≡ (opening case.now before.now caps).hosts) }
     ensures completed { IfOk result (λ exec. All (λ t. t.phase ≡ Phase.Completed) exec.tasks) }
 {
     let mut exec = launched(alloc, case, caps, before, after)?;

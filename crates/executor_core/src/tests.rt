@@ -1,13 +1,15 @@
-// Executions of four partitions on the brokers 0 to 5: whole, call by call, and disturbed before each event.
+// Executions of four partitions on the brokers 0 to 5: call by call, disturbed before each event, and whole.
+// Each call stands in a function of its own that promises nothing, so that no proof follows the executor's state.
 ghost use Rattle.std.specs.Prelude.{◌≡◌, IfOk, length, slice_index};
 ghost use Rattle.plan_terms.specs.Belongs.{Belongs};
 
 use super::*;
+use crate::alone::launched;
 use cap_ledger::Caps;
-use exec_terms::{Given, Idle, KillFault, LaunchFault, LeaseFault, Phase, Work};
+use exec_terms::{Given, Idle, Work};
 use load_model::{Assign, Broker, BrokerState, Case, Loads, Options, Part, Ratio, Topic};
-use proposal_set::proposals;
-use std::alloc::Global;
+use plan_terms::Replicas;
+use std::alloc::{AllocError, Global};
 use std::process::Abort;
 use std::test::Fail;
 
@@ -39,9 +41,7 @@ fn options() -> Result<Options, Fail> {
     })
 }
 
-fn case(alloc: Global, chunks: u32) -> Result<Case, Fail>
-    ensures { IfOk result (λ c. length c.parts ≡ 4) }
-{
+fn brokers(alloc: Global) -> Result<Vec<Broker>, Fail> {
     let mut brokers = Vec::new(alloc);
     for id in 0..6 {
         brokers.push(Broker {
@@ -51,13 +51,19 @@ fn case(alloc: Global, chunks: u32) -> Result<Case, Fail>
             state: BrokerState::Alive,
         })?;
     }
+    Ok(brokers)
+}
+
+fn case(alloc: Global, chunks: u32) -> Result<Case, Fail>
+    ensures { IfOk result (λ c. length c.parts ≡ 4) }
+{
     let parts = vec![in alloc;
         part(alloc, 0, chunks)?,
         part(alloc, 1, chunks)?,
         part(alloc, 2, chunks)?,
         part(alloc, 3, chunks)?,
     ]?;
-    Ok(Case::new(alloc, brokers, parts, options()?)?)
+    Ok(Case::new(alloc, brokers(alloc)?, parts, options()?)?)
 }
 
 // Each partition on one broker.
@@ -79,35 +85,118 @@ fn assignment(alloc: Global, case: &Case, on: [u32; 4]) -> Result<Assign, Fail>
 fn moving(
     rt: &impl Abort,
     alloc: Global,
-    cap: u32,
+    broker: u32,
     chunks: u32,
     from: [u32; 4],
     to: [u32; 4],
 ) -> Result<Exec, Fail> {
     let case = case(alloc, chunks)?;
+    let before = assignment(alloc, &case, from)?;
+    let after = assignment(alloc, &case, to)?;
+    assert!(rt; broker >= 1);
+    assert!(rt; avoids_lost(&case, &after));
     let caps = Caps {
-        broker: cap,
+        broker,
         cluster: 10,
         leader: 10,
     };
-    assert!(rt; cap >= 1);
-    let before = assignment(alloc, &case, from)?;
-    let after = assignment(alloc, &case, to)?;
-    let mut exec = opened(alloc, &case, caps, &before)?;
-    let changes = proposals(alloc, &before, &after)?;
-    assert!(rt; exec.can_launch(&changes));
-    assert!(rt; exec.launch(alloc, &changes).is_ok());
-    Ok(exec)
+    Ok(launched(alloc, &case, caps, &before, &after)?)
+}
+
+fn take(rt: &impl Abort, exec: &mut Exec) -> Result<Given, Idle> {
+    assert!(rt; exec.leases() < 100);
+    exec.take()
+}
+
+fn takes(rt: &impl Abort, alloc: Global, exec: &mut Exec) -> Result<String, AllocError> {
+    format!(in alloc; "{:?}", take(rt, exec))
+}
+
+fn copied(alloc: Global, exec: &mut Exec, lease: u64) -> Result<String, AllocError> {
+    format!(in alloc; "{:?}", exec.copied(lease))
+}
+
+fn copy_failed(alloc: Global, exec: &mut Exec, lease: u64) -> Result<String, AllocError> {
+    format!(in alloc; "{:?}", exec.copy_failed(lease))
+}
+
+fn commit(alloc: Global, exec: &mut Exec, lease: u64) -> Result<String, AllocError> {
+    format!(in alloc; "{:?}", exec.commit(lease))
+}
+
+fn cancel(alloc: Global, exec: &mut Exec, lease: u64) -> Result<String, AllocError> {
+    format!(in alloc; "{:?}", exec.cancel(lease))
+}
+
+fn give_back(alloc: Global, exec: &mut Exec, lease: u64) -> Result<String, AllocError> {
+    format!(in alloc; "{:?}", exec.give_back(lease))
+}
+
+fn held(alloc: Global, exec: &Exec, lease: u64) -> Result<String, AllocError> {
+    format!(in alloc; "{:?}", exec.held(lease))
+}
+
+fn stop(alloc: Global, exec: &mut Exec, force: bool) -> Result<String, AllocError> {
+    format!(in alloc; "{:?}", exec.stop(force))
+}
+
+fn kill(alloc: Global, exec: &mut Exec, broker: u32) -> Result<String, AllocError> {
+    format!(in alloc; "{:?}", exec.kill(broker))
+}
+
+fn launch_none(rt: &impl Abort, alloc: Global, exec: &mut Exec) -> Result<String, AllocError> {
+    let nothing = Vec::new(alloc);
+    assert!(rt; exec.can_launch(&nothing));
+    format!(in alloc; "{:?}", exec.launch(alloc, &nothing))
+}
+
+fn adding(alloc: Global, exec: &Exec, broker: u32) -> Result<String, AllocError> {
+    format!(in alloc; "{:?}", exec.counts().adding(broker))
+}
+
+fn members(lists: &[Replicas], part: u32) -> &[u32] {
+    match lists.get(part as usize) {
+        None => &[],
+        Some(list) => list.as_slice(),
+    }
+}
+
+fn list(alloc: Global, exec: &Exec, part: u32) -> Result<String, AllocError> {
+    match exec.lists_now(alloc) {
+        Err(_) => Err(AllocError),
+        Ok(lists) => format!(in alloc; "{:?}", members(&lists, part)),
+    }
+}
+
+// A worker's report.
+#[derive(Clone, Copy)]
+enum Report {
+    Copied,
+    CopyFailed,
+    Commit,
+    Cancel,
+    GiveBack,
+}
+
+fn make_report(
+    alloc: Global,
+    exec: &mut Exec,
+    report: Report,
+    lease: u64,
+) -> Result<String, AllocError> {
+    match report {
+        Report::Copied => copied(alloc, exec, lease),
+        Report::CopyFailed => copy_failed(alloc, exec, lease),
+        Report::Commit => commit(alloc, exec, lease),
+        Report::Cancel => cancel(alloc, exec, lease),
+        Report::GiveBack => give_back(alloc, exec, lease),
+    }
 }
 
 #[derive(Clone, Copy)]
-enum Step {
+enum Call {
     Take,
-    Copied(u64),
-    CopyFailed(u64),
-    Commit(u64),
-    Cancel(u64),
-    GiveBack(u64),
+    Report(Report, u64),
     Held(u64),
     Stop(bool),
     Kill(u32),
@@ -116,312 +205,221 @@ enum Step {
     Adding(u32),
 }
 
-// What a call answered; the numbers that come with it stand beside it, in their order.
-#[derive(Clone, Copy, PartialEq, Eq)]
-enum Kind {
-    Begins,
-    Copy,
-    Commit,
-    Cancel,
-    NoExecution,
-    AllLeased,
-    CapsFull,
-    Left,
-    Faults,
-    Done,
-    Aborted,
-    Dead,
-    Stale,
-    AbortAsked,
-    NotHeld,
-    Stopped,
-    NothingToStop,
-    Killed,
-    NoSuchBroker,
-    AlreadyDead,
-    Executing,
-    One,
-    Two,
-    Count,
-    Other,
-}
-
-#[derive(Clone, Copy)]
-struct Reply {
-    kind: Kind,
-    numbers: [u64; 4],
-}
-
-fn none(kind: Kind) -> Reply {
-    Reply {
-        kind,
-        numbers: [0, 0, 0, 0],
+// What the call answers, in words.
+fn answer(
+    rt: &impl Abort,
+    alloc: Global,
+    exec: &mut Exec,
+    call: Call,
+) -> Result<String, AllocError> {
+    match call {
+        Call::Take => takes(rt, alloc, exec),
+        Call::Report(kind, lease) => make_report(alloc, exec, kind, lease),
+        Call::Held(lease) => held(alloc, exec, lease),
+        Call::Stop(force) => stop(alloc, exec, force),
+        Call::Kill(broker) => kill(alloc, exec, broker),
+        Call::LaunchNone => launch_none(rt, alloc, exec),
+        Call::List(part) => list(alloc, exec, part),
+        Call::Adding(broker) => adding(alloc, exec, broker),
     }
 }
 
-fn one(kind: Kind, number: u64) -> Reply {
-    Reply {
-        kind,
-        numbers: [number, 0, 0, 0],
-    }
+fn says(
+    rt: &impl Abort,
+    alloc: Global,
+    exec: &mut Exec,
+    call: Call,
+    want: &str,
+) -> Result<(), Fail> {
+    let got = answer(rt, alloc, exec, call)?;
+    assert_eq!(rt; got.as_str(), want);
+    Ok(())
 }
 
-fn two(kind: Kind, first: u64, second: u64) -> Reply {
-    Reply {
-        kind,
-        numbers: [first, second, 0, 0],
-    }
-}
-
-fn is(reply: Reply, kind: Kind, numbers: [u64; 4]) -> bool {
-    let [a, b, c, d] = reply.numbers;
-    let [e, f, g, h] = numbers;
-    reply.kind == kind && a == e && b == f && c == g && d == h
-}
-
-fn given_reply(given: Given) -> Reply {
-    match given.work {
-        Work::Copy { to, chunk } => Reply {
-            kind: if given.starts {
-                Kind::Begins
-            } else {
-                Kind::Copy
-            },
-            numbers: [given.lease, given.task as u64, to as u64, chunk as u64],
-        },
-        Work::Commit => two(Kind::Commit, given.lease, given.task as u64),
-        Work::Cancel => two(Kind::Cancel, given.lease, given.task as u64),
-    }
-}
-
-fn idle_reply(reason: Idle) -> Reply {
-    match reason {
-        Idle::NoExecution => none(Kind::NoExecution),
-        Idle::AllLeased => none(Kind::AllLeased),
-        Idle::CapsFull => none(Kind::CapsFull),
-    }
-}
-
-fn fault_reply(fault: LeaseFault) -> Reply {
-    match fault {
-        LeaseFault::Stale(last) => one(Kind::Stale, last),
-        LeaseFault::AbortAsked => none(Kind::AbortAsked),
-    }
-}
-
-fn take(rt: &impl Abort, exec: &mut Exec) -> Result<Given, Idle> {
-    assert!(rt; exec.leases() < 100);
-    exec.take()
-}
-
-fn take_reply(rt: &impl Abort, exec: &mut Exec) -> Reply {
-    match take(rt, exec) {
-        Ok(given) => given_reply(given),
-        Err(reason) => idle_reply(reason),
-    }
-}
-
-fn lease_reply(exec: &mut Exec, step: Step) -> Reply {
-    match step {
-        Step::Copied(lease) => match exec.copied(lease) {
-            Ok(left) => one(Kind::Left, left.0 as u64),
-            Err(e) => fault_reply(e),
-        },
-        Step::CopyFailed(lease) => match exec.copy_failed(lease) {
-            Ok(faults) => one(Kind::Faults, faults.0 as u64),
-            Err(e) => fault_reply(e),
-        },
-        Step::Commit(lease) => match exec.commit(lease) {
-            Ok(()) => none(Kind::Done),
-            Err(e) => fault_reply(e),
-        },
-        Step::Cancel(lease) => match exec.cancel(lease) {
-            Ok(Phase::Dead) => none(Kind::Dead),
-            Ok(Phase::Aborted) => none(Kind::Aborted),
-            Ok(_) => none(Kind::Other),
-            Err(e) => fault_reply(e),
-        },
-        Step::GiveBack(lease) => match exec.give_back(lease) {
-            Ok(()) => none(Kind::Done),
-            Err(e) => fault_reply(e),
-        },
-        _ => none(Kind::Other),
-    }
-}
-
-fn stop_reply(exec: &mut Exec, force: bool) -> Reply {
-    match exec.stop(force) {
-        Ok(stopped) => two(
-            Kind::Stopped,
-            stopped.aborted as u64,
-            stopped.aborting as u64,
-        ),
-        Err(_) => none(Kind::NothingToStop),
-    }
-}
-
-fn kill_reply(exec: &mut Exec, broker: u32) -> Reply {
-    match exec.kill(broker) {
-        Ok(killed) => two(Kind::Killed, killed.dead as u64, killed.aborting as u64),
-        Err(KillFault::NoSuchBroker) => none(Kind::NoSuchBroker),
-        Err(KillFault::AlreadyDead) => none(Kind::AlreadyDead),
-    }
-}
-
-fn launch_reply(rt: &impl Abort, alloc: Global, exec: &mut Exec) -> Reply {
-    let nothing = Vec::new(alloc);
-    assert!(rt; exec.can_launch(&nothing));
-    match exec.launch(alloc, &nothing) {
-        Ok(()) => none(Kind::Done),
-        Err(LaunchFault::Executing(task)) => one(Kind::Executing, task as u64),
-        Err(LaunchFault::Memory) => none(Kind::Other),
-    }
-}
-
-fn list_reply(alloc: Global, exec: &Exec, part: u32) -> Result<Reply, Fail> {
-    let lists = exec.lists_now(alloc)?;
-    Ok(match lists.get(part as usize) {
-        None => none(Kind::Other),
-        Some(list) => match list.as_slice() {
-            [a] => one(Kind::One, *a as u64),
-            [a, b] => two(Kind::Two, *a as u64, *b as u64),
-            _ => none(Kind::Other),
-        },
-    })
-}
-
-fn held_reply(exec: &Exec, lease: u64) -> Reply {
-    match exec.held(lease) {
-        None => none(Kind::NotHeld),
-        Some(given) => given_reply(given),
-    }
-}
-
-fn reply_to(rt: &impl Abort, alloc: Global, exec: &mut Exec, step: Step) -> Result<Reply, Fail> {
-    Ok(match step {
-        Step::Take => take_reply(rt, exec),
-        Step::Held(lease) => held_reply(exec, lease),
-        Step::Stop(force) => stop_reply(exec, force),
-        Step::Kill(broker) => kill_reply(exec, broker),
-        Step::LaunchNone => launch_reply(rt, alloc, exec),
-        Step::List(part) => list_reply(alloc, exec, part)?,
-        Step::Adding(broker) => one(Kind::Count, exec.counts().adding(broker) as u64),
-        _ => lease_reply(exec, step),
-    })
-}
-
-// Each step is replied to as it is to be.
 fn play(
     rt: &impl Abort,
     alloc: Global,
     exec: &mut Exec,
-    steps: &[(Step, Kind, [u64; 4])],
+    calls: &[(Call, &str)],
 ) -> Result<(), Fail> {
-    for (step, kind, numbers) in steps {
-        let reply = reply_to(rt, alloc, exec, *step)?;
-        assert!(rt; is(reply, *kind, *numbers));
+    for (call, want) in calls {
+        says(rt, alloc, exec, *call, want)?;
     }
     Ok(())
 }
 
 // More tasks wait than the cap of a broker lets start.
-const FULL: [(Step, Kind, [u64; 4]); 15] = [
-    (Step::Take, Kind::Begins, [1, 0, 1, 0]),
-    (Step::Take, Kind::Begins, [2, 3, 5, 0]),
-    (Step::Take, Kind::CapsFull, [0, 0, 0, 0]),
-    (Step::Copied(2), Kind::Left, [0, 0, 0, 0]),
-    (Step::Copied(2), Kind::Stale, [2, 0, 0, 0]),
-    (Step::CopyFailed(1), Kind::Faults, [1, 0, 0, 0]),
-    (Step::Take, Kind::Copy, [3, 0, 1, 0]),
-    (Step::LaunchNone, Kind::Executing, [0, 0, 0, 0]),
-    (Step::Stop(false), Kind::Stopped, [2, 0, 0, 0]),
-    (Step::Kill(9), Kind::NoSuchBroker, [0, 0, 0, 0]),
-    (Step::Adding(1), Kind::Count, [1, 0, 0, 0]),
-    (Step::Adding(2), Kind::Count, [0, 0, 0, 0]),
-    (Step::Kill(4), Kind::Killed, [0, 0, 0, 0]),
-    (Step::Kill(4), Kind::AlreadyDead, [0, 0, 0, 0]),
-    (Step::Take, Kind::Commit, [4, 3, 0, 0]),
+const FULL: [(Call, &str); 15] = [
+    (
+        Call::Take,
+        "Ok(Given { lease: 1, task: 0, part: 0, work: Copy { to: 1, chunk: 0 }, starts: true })",
+    ),
+    (
+        Call::Take,
+        "Ok(Given { lease: 2, task: 3, part: 3, work: Copy { to: 5, chunk: 0 }, starts: true })",
+    ),
+    (Call::Take, "Err(CapsFull)"),
+    (Call::Report(Report::Copied, 2), "Ok(Left(0))"),
+    (Call::Report(Report::Copied, 2), "Err(Stale(2))"),
+    (Call::Report(Report::CopyFailed, 1), "Ok(Faults(1))"),
+    (
+        Call::Take,
+        "Ok(Given { lease: 3, task: 0, part: 0, work: Copy { to: 1, chunk: 0 }, starts: false })",
+    ),
+    (Call::LaunchNone, "Err(Executing(0))"),
+    (Call::Stop(false), "Ok(Stopped { aborted: 2, aborting: 0 })"),
+    (Call::Kill(9), "Err(NoSuchBroker)"),
+    (Call::Adding(1), "1"),
+    (Call::Adding(2), "0"),
+    (Call::Kill(4), "Ok(Killed { dead: 0, aborting: 0 })"),
+    (Call::Kill(4), "Err(AlreadyDead)"),
+    (
+        Call::Take,
+        "Ok(Given { lease: 4, task: 3, part: 3, work: Commit, starts: false })",
+    ),
 ];
 
 // A forced stop comes before the commit.
-const FORCED_STOP: [(Step, Kind, [u64; 4]); 8] = [
-    (Step::Take, Kind::Begins, [1, 0, 1, 0]),
-    (Step::Copied(1), Kind::Left, [0, 0, 0, 0]),
-    (Step::Take, Kind::Commit, [2, 0, 0, 0]),
-    (Step::Stop(true), Kind::Stopped, [0, 1, 0, 0]),
-    (Step::Commit(2), Kind::AbortAsked, [0, 0, 0, 0]),
-    (Step::Take, Kind::Cancel, [3, 0, 0, 0]),
-    (Step::Cancel(3), Kind::Aborted, [0, 0, 0, 0]),
-    (Step::List(0), Kind::One, [0, 0, 0, 0]),
+const FORCED_STOP: [(Call, &str); 8] = [
+    (
+        Call::Take,
+        "Ok(Given { lease: 1, task: 0, part: 0, work: Copy { to: 1, chunk: 0 }, starts: true })",
+    ),
+    (Call::Report(Report::Copied, 1), "Ok(Left(0))"),
+    (
+        Call::Take,
+        "Ok(Given { lease: 2, task: 0, part: 0, work: Commit, starts: false })",
+    ),
+    (Call::Stop(true), "Ok(Stopped { aborted: 0, aborting: 1 })"),
+    (Call::Report(Report::Commit, 2), "Err(AbortAsked)"),
+    (
+        Call::Take,
+        "Ok(Given { lease: 3, task: 0, part: 0, work: Cancel, starts: false })",
+    ),
+    (Call::Report(Report::Cancel, 3), "Ok(Aborted)"),
+    (Call::List(0), "[0]"),
 ];
 
 // A soft stop does.
-const SOFT_STOP: [(Step, Kind, [u64; 4]); 7] = [
-    (Step::Take, Kind::Begins, [1, 0, 1, 0]),
-    (Step::Copied(1), Kind::Left, [0, 0, 0, 0]),
-    (Step::Take, Kind::Commit, [2, 0, 0, 0]),
-    (Step::Stop(false), Kind::Stopped, [0, 0, 0, 0]),
-    (Step::Commit(2), Kind::Done, [0, 0, 0, 0]),
-    (Step::List(0), Kind::One, [1, 0, 0, 0]),
-    (Step::Take, Kind::NoExecution, [0, 0, 0, 0]),
+const SOFT_STOP: [(Call, &str); 7] = [
+    (
+        Call::Take,
+        "Ok(Given { lease: 1, task: 0, part: 0, work: Copy { to: 1, chunk: 0 }, starts: true })",
+    ),
+    (Call::Report(Report::Copied, 1), "Ok(Left(0))"),
+    (
+        Call::Take,
+        "Ok(Given { lease: 2, task: 0, part: 0, work: Commit, starts: false })",
+    ),
+    (Call::Stop(false), "Ok(Stopped { aborted: 0, aborting: 0 })"),
+    (Call::Report(Report::Commit, 2), "Ok(())"),
+    (Call::List(0), "[1]"),
+    (Call::Take, "Err(NoExecution)"),
 ];
 
 // The broker that the task adds dies while it is copied to.
-const DEATH: [(Step, Kind, [u64; 4]); 12] = [
-    (Step::Take, Kind::Begins, [1, 0, 1, 0]),
-    (Step::Kill(1), Kind::Killed, [0, 1, 0, 0]),
-    (Step::List(0), Kind::Two, [0, 1, 0, 0]),
-    (Step::Stop(true), Kind::Stopped, [0, 0, 0, 0]),
-    (Step::Take, Kind::AllLeased, [0, 0, 0, 0]),
-    (Step::Copied(1), Kind::AbortAsked, [0, 0, 0, 0]),
-    (Step::Take, Kind::Cancel, [2, 0, 0, 0]),
-    (Step::Adding(1), Kind::Count, [1, 0, 0, 0]),
-    (Step::Cancel(2), Kind::Dead, [0, 0, 0, 0]),
-    (Step::List(0), Kind::One, [0, 0, 0, 0]),
-    (Step::Adding(1), Kind::Count, [0, 0, 0, 0]),
-    (Step::Stop(true), Kind::NothingToStop, [0, 0, 0, 0]),
+const DEATH: [(Call, &str); 12] = [
+    (
+        Call::Take,
+        "Ok(Given { lease: 1, task: 0, part: 0, work: Copy { to: 1, chunk: 0 }, starts: true })",
+    ),
+    (Call::Kill(1), "Ok(Killed { dead: 0, aborting: 1 })"),
+    (Call::List(0), "[0, 1]"),
+    (Call::Stop(true), "Ok(Stopped { aborted: 0, aborting: 0 })"),
+    (Call::Take, "Err(AllLeased)"),
+    (Call::Report(Report::Copied, 1), "Err(AbortAsked)"),
+    (
+        Call::Take,
+        "Ok(Given { lease: 2, task: 0, part: 0, work: Cancel, starts: false })",
+    ),
+    (Call::Adding(1), "1"),
+    (Call::Report(Report::Cancel, 2), "Ok(Dead)"),
+    (Call::List(0), "[0]"),
+    (Call::Adding(1), "0"),
+    (Call::Stop(true), "Err(NothingToStop)"),
 ];
 
 // A lease is given back, and then each copy fails.
-const FAULTS: [(Step, Kind, [u64; 4]); 14] = [
-    (Step::Take, Kind::Begins, [1, 0, 1, 0]),
-    (Step::Held(1), Kind::Copy, [1, 0, 1, 0]),
-    (Step::GiveBack(1), Kind::Done, [0, 0, 0, 0]),
-    (Step::Held(1), Kind::NotHeld, [0, 0, 0, 0]),
-    (Step::GiveBack(1), Kind::Stale, [1, 0, 0, 0]),
-    (Step::Take, Kind::Copy, [2, 0, 1, 0]),
-    (Step::CopyFailed(2), Kind::Faults, [1, 0, 0, 0]),
-    (Step::Take, Kind::Copy, [3, 0, 1, 0]),
-    (Step::CopyFailed(3), Kind::Faults, [2, 0, 0, 0]),
-    (Step::Take, Kind::Copy, [4, 0, 1, 0]),
-    (Step::CopyFailed(4), Kind::Faults, [3, 0, 0, 0]),
-    (Step::Take, Kind::Cancel, [5, 0, 0, 0]),
-    (Step::Cancel(5), Kind::Dead, [0, 0, 0, 0]),
-    (Step::LaunchNone, Kind::Done, [0, 0, 0, 0]),
+const FAULTS: [(Call, &str); 14] = [
+    (
+        Call::Take,
+        "Ok(Given { lease: 1, task: 0, part: 0, work: Copy { to: 1, chunk: 0 }, starts: true })",
+    ),
+    (
+        Call::Held(1),
+        "Some(Given { lease: 1, task: 0, part: 0, work: Copy { to: 1, chunk: 0 }, starts: false })",
+    ),
+    (Call::Report(Report::GiveBack, 1), "Ok(())"),
+    (Call::Held(1), "None"),
+    (Call::Report(Report::GiveBack, 1), "Err(Stale(1))"),
+    (
+        Call::Take,
+        "Ok(Given { lease: 2, task: 0, part: 0, work: Copy { to: 1, chunk: 0 }, starts: false })",
+    ),
+    (Call::Report(Report::CopyFailed, 2), "Ok(Faults(1))"),
+    (
+        Call::Take,
+        "Ok(Given { lease: 3, task: 0, part: 0, work: Copy { to: 1, chunk: 0 }, starts: false })",
+    ),
+    (Call::Report(Report::CopyFailed, 3), "Ok(Faults(2))"),
+    (
+        Call::Take,
+        "Ok(Given { lease: 4, task: 0, part: 0, work: Copy { to: 1, chunk: 0 }, starts: false })",
+    ),
+    (Call::Report(Report::CopyFailed, 4), "Ok(Faults(3))"),
+    (
+        Call::Take,
+        "Ok(Given { lease: 5, task: 0, part: 0, work: Cancel, starts: false })",
+    ),
+    (Call::Report(Report::Cancel, 5), "Ok(Dead)"),
+    (Call::LaunchNone, "Ok(())"),
 ];
 
+// The calls are answered so in an execution of one task.
+fn plays_one(rt: &impl Abort, alloc: Global, calls: &[(Call, &str)]) -> Result<(), Fail> {
+    let mut exec = moving(rt, alloc, 5, 1, [0, 0, 0, 0], [1, 0, 0, 0])?;
+    play(rt, alloc, &mut exec, calls)
+}
+
 #[test]
-fn replies_to_each_call(rt: HostRuntime) -> Result<(), Fail> {
+fn answers_each_call_of_a_full_run(rt: HostRuntime) -> Result<(), Fail> {
     let alloc = rt.alloc();
-    let mut full = moving(&rt, alloc, 1, 1, [0, 0, 0, 4], [1, 2, 3, 5])?;
-    play(&rt, alloc, &mut full, &FULL)?;
-    let mut forced = moving(&rt, alloc, 5, 1, [0, 0, 0, 0], [1, 0, 0, 0])?;
-    play(&rt, alloc, &mut forced, &FORCED_STOP)?;
-    let mut soft = moving(&rt, alloc, 5, 1, [0, 0, 0, 0], [1, 0, 0, 0])?;
-    play(&rt, alloc, &mut soft, &SOFT_STOP)?;
-    let mut death = moving(&rt, alloc, 5, 1, [0, 0, 0, 0], [1, 0, 0, 0])?;
-    play(&rt, alloc, &mut death, &DEATH)?;
-    let mut faults = moving(&rt, alloc, 5, 1, [0, 0, 0, 0], [1, 0, 0, 0])?;
-    play(&rt, alloc, &mut faults, &FAULTS)
+    let mut exec = moving(&rt, alloc, 1, 1, [0, 0, 0, 4], [1, 2, 3, 5])?;
+    play(&rt, alloc, &mut exec, &FULL)
+}
+
+#[test]
+fn answers_each_call_after_a_stop_a_death_or_a_fault(rt: HostRuntime) -> Result<(), Fail> {
+    let alloc = rt.alloc();
+    plays_one(&rt, alloc, &FORCED_STOP)?;
+    plays_one(&rt, alloc, &SOFT_STOP)?;
+    plays_one(&rt, alloc, &DEATH)?;
+    plays_one(&rt, alloc, &FAULTS)
 }
 
 // Reports done the work that was given.
-fn report(exec: &mut Exec, given: Given) {
-    let _reply = match given.work {
-        Work::Copy { .. } => lease_reply(exec, Step::Copied(given.lease)),
-        Work::Commit => lease_reply(exec, Step::Commit(given.lease)),
-        Work::Cancel => lease_reply(exec, Step::Cancel(given.lease)),
-    };
+fn finish(alloc: Global, exec: &mut Exec, given: Given) -> Result<String, AllocError> {
+    match given.work {
+        Work::Copy { .. } => copied(alloc, exec, given.lease),
+        Work::Commit => commit(alloc, exec, given.lease),
+        Work::Cancel => cancel(alloc, exec, given.lease),
+    }
+}
+
+// One event of a worker that holds this work: it is reported done, or the next is taken.
+fn event(
+    rt: &impl Abort,
+    alloc: Global,
+    exec: &mut Exec,
+    held: Option<Given>,
+) -> Result<Option<Given>, Fail> {
+    match held {
+        None => Ok(take(rt, exec).ok()),
+        Some(given) => {
+            finish(alloc, exec, given)?;
+            Ok(None)
+        }
+    }
 }
 
 // One worker takes work and reports it done, event by event; the intruder comes before the event of this number.
@@ -429,95 +427,174 @@ fn disturbed(
     rt: &impl Abort,
     alloc: Global,
     exec: &mut Exec,
-    intruder: Step,
+    intruder: (Call, &str),
     before: u32,
-) -> Result<Reply, Fail> {
-    let mut reply = none(Kind::Other);
+) -> Result<(), Fail> {
+    let (call, want) = intruder;
     let mut held = None;
-    for event in 1..40 {
-        if event == before {
-            reply = reply_to(rt, alloc, exec, intruder)?;
+    for number in 1..40 {
+        if number == before {
+            says(rt, alloc, exec, call, want)?;
         }
-        held = match held {
-            None => take(rt, exec).ok(),
-            Some(given) => {
-                report(exec, given);
-                None
-            }
-        };
+        held = event(rt, alloc, exec, held)?;
     }
-    Ok(reply)
+    Ok(())
 }
 
-// The intruder, the first and the last event before which it comes, its reply, and the brokers of two partitions at the end.
-const INTRUDERS: [(Step, u32, u32, Kind, [u64; 4], [u64; 2]); 16] = [
-    (Step::Stop(true), 1, 1, Kind::Stopped, [2, 0, 0, 0], [0, 0]),
-    (Step::Stop(true), 2, 6, Kind::Stopped, [1, 1, 0, 0], [0, 0]),
-    (Step::Stop(true), 7, 7, Kind::Stopped, [1, 0, 0, 0], [2, 0]),
-    (Step::Stop(true), 8, 12, Kind::Stopped, [0, 1, 0, 0], [2, 0]),
+// An intruder and its answer, the first and the last event before which it comes, and two partitions' lists at the end.
+type Row = (Call, &'static str, u32, u32, &'static str, &'static str);
+
+const INTRUDERS: [Row; 16] = [
     (
-        Step::Stop(true),
-        13,
-        13,
-        Kind::NothingToStop,
-        [0, 0, 0, 0],
-        [2, 3],
+        Call::Stop(true),
+        "Ok(Stopped { aborted: 2, aborting: 0 })",
+        1,
+        1,
+        "[0]",
+        "[0]",
     ),
     (
-        Step::Stop(false),
-        13,
-        13,
-        Kind::NothingToStop,
-        [0, 0, 0, 0],
-        [2, 3],
+        Call::Stop(true),
+        "Ok(Stopped { aborted: 1, aborting: 1 })",
+        2,
+        6,
+        "[0]",
+        "[0]",
     ),
-    (Step::Stop(false), 1, 1, Kind::Stopped, [2, 0, 0, 0], [0, 0]),
-    (Step::Stop(false), 2, 7, Kind::Stopped, [1, 0, 0, 0], [2, 0]),
     (
-        Step::Stop(false),
+        Call::Stop(true),
+        "Ok(Stopped { aborted: 1, aborting: 0 })",
+        7,
+        7,
+        "[2]",
+        "[0]",
+    ),
+    (
+        Call::Stop(true),
+        "Ok(Stopped { aborted: 0, aborting: 1 })",
         8,
         12,
-        Kind::Stopped,
-        [0, 0, 0, 0],
-        [2, 3],
+        "[2]",
+        "[0]",
     ),
-    (Step::Kill(2), 1, 1, Kind::Killed, [1, 0, 0, 0], [0, 3]),
-    (Step::Kill(2), 2, 6, Kind::Killed, [0, 1, 0, 0], [0, 3]),
-    (Step::Kill(2), 7, 13, Kind::Killed, [0, 0, 0, 0], [2, 3]),
-    (Step::Kill(3), 1, 7, Kind::Killed, [1, 0, 0, 0], [2, 0]),
-    (Step::Kill(3), 8, 12, Kind::Killed, [0, 1, 0, 0], [2, 0]),
-    (Step::Kill(3), 13, 13, Kind::Killed, [0, 0, 0, 0], [2, 3]),
-    (Step::Kill(0), 1, 13, Kind::Killed, [0, 0, 0, 0], [2, 3]),
+    (Call::Stop(true), "Err(NothingToStop)", 13, 13, "[2]", "[3]"),
+    (
+        Call::Stop(false),
+        "Ok(Stopped { aborted: 2, aborting: 0 })",
+        1,
+        1,
+        "[0]",
+        "[0]",
+    ),
+    (
+        Call::Stop(false),
+        "Ok(Stopped { aborted: 1, aborting: 0 })",
+        2,
+        7,
+        "[2]",
+        "[0]",
+    ),
+    (
+        Call::Stop(false),
+        "Ok(Stopped { aborted: 0, aborting: 0 })",
+        8,
+        12,
+        "[2]",
+        "[3]",
+    ),
+    (
+        Call::Stop(false),
+        "Err(NothingToStop)",
+        13,
+        13,
+        "[2]",
+        "[3]",
+    ),
+    (
+        Call::Kill(2),
+        "Ok(Killed { dead: 1, aborting: 0 })",
+        1,
+        1,
+        "[0]",
+        "[3]",
+    ),
+    (
+        Call::Kill(2),
+        "Ok(Killed { dead: 0, aborting: 1 })",
+        2,
+        6,
+        "[0]",
+        "[3]",
+    ),
+    (
+        Call::Kill(2),
+        "Ok(Killed { dead: 0, aborting: 0 })",
+        7,
+        13,
+        "[2]",
+        "[3]",
+    ),
+    (
+        Call::Kill(3),
+        "Ok(Killed { dead: 1, aborting: 0 })",
+        1,
+        7,
+        "[2]",
+        "[0]",
+    ),
+    (
+        Call::Kill(3),
+        "Ok(Killed { dead: 0, aborting: 1 })",
+        8,
+        12,
+        "[2]",
+        "[0]",
+    ),
+    (
+        Call::Kill(3),
+        "Ok(Killed { dead: 0, aborting: 0 })",
+        13,
+        13,
+        "[2]",
+        "[3]",
+    ),
+    (
+        Call::Kill(0),
+        "Ok(Killed { dead: 0, aborting: 0 })",
+        1,
+        13,
+        "[2]",
+        "[3]",
+    ),
 ];
 
-// The run with an intruder before this event ends as it is to.
-fn ends(
-    rt: &impl Abort,
-    alloc: Global,
-    event: u32,
-    row: (Step, u32, u32, Kind, [u64; 4], [u64; 2]),
-) -> Result<(), Fail> {
-    let (intruder, first, last, kind, numbers, lists) = row;
+// The run with this intruder before this event ends as it is to.
+fn ends(rt: &impl Abort, alloc: Global, row: Row, event: u32) -> Result<(), Fail> {
+    let (call, want, first, last, one, other) = row;
     if event < first || last < event {
         return Ok(());
     }
-    let [a, b] = lists;
     let mut exec = moving(rt, alloc, 1, 2, [0, 0, 4, 4], [2, 3, 4, 4])?;
-    let reply = disturbed(rt, alloc, &mut exec, intruder, event)?;
-    assert!(rt; is(reply, kind, numbers));
-    assert!(rt; is(take_reply(rt, &mut exec), Kind::NoExecution, [0, 0, 0, 0]));
-    assert!(rt; is(list_reply(alloc, &exec, 0)?, Kind::One, [a, 0, 0, 0]));
-    assert!(rt; is(list_reply(alloc, &exec, 1)?, Kind::One, [b, 0, 0, 0]));
+    disturbed(rt, alloc, &mut exec, (call, want), event)?;
+    let calls = [
+        (Call::Take, "Err(NoExecution)"),
+        (Call::List(0), one),
+        (Call::List(1), other),
+    ];
+    play(rt, alloc, &mut exec, &calls)
+}
+
+fn ends_before_each(rt: &impl Abort, alloc: Global, row: Row) -> Result<(), Fail> {
+    for event in 1..14 {
+        ends(rt, alloc, row, event)?;
+    }
     Ok(())
 }
 
 #[test]
 fn ends_well_with_a_stop_or_a_death_before_each_event(rt: HostRuntime) -> Result<(), Fail> {
-    let alloc = rt.alloc();
     for row in &INTRUDERS {
-        for event in 1..14 {
-            ends(&rt, alloc, event, *row)?;
-        }
+        ends_before_each(&rt, rt.alloc(), *row)?;
     }
     Ok(())
 }
@@ -526,18 +603,20 @@ fn ends_well_with_a_stop_or_a_death_before_each_event(rt: HostRuntime) -> Result
 fn carries_out_a_change(rt: HostRuntime) -> Result<(), Fail> {
     let alloc = rt.alloc();
     let case = case(alloc, 2)?;
+    let before = assignment(alloc, &case, [0, 0, 1, 4])?;
+    let after = assignment(alloc, &case, [1, 2, 1, 5])?;
+    assert!(rt; avoids_lost(&case, &after));
     let caps = Caps {
         broker: 1,
         cluster: 1,
         leader: 1,
     };
-    let before = assignment(alloc, &case, [0, 0, 1, 4])?;
-    let after = assignment(alloc, &case, [1, 2, 1, 5])?;
-    assert!(rt; avoids_lost(&case, &after));
-    let exec = carry_out(alloc, &case, caps, &before, &after)?;
-    assert!(rt; is(list_reply(alloc, &exec, 0)?, Kind::One, [1, 0, 0, 0]));
-    assert!(rt; is(list_reply(alloc, &exec, 1)?, Kind::One, [2, 0, 0, 0]));
-    assert!(rt; is(list_reply(alloc, &exec, 2)?, Kind::One, [1, 0, 0, 0]));
-    assert!(rt; is(list_reply(alloc, &exec, 3)?, Kind::One, [5, 0, 0, 0]));
-    Ok(())
+    let mut exec = carry_out(alloc, &case, caps, &before, &after)?;
+    let calls = [
+        (Call::List(0), "[1]"),
+        (Call::List(1), "[2]"),
+        (Call::List(2), "[1]"),
+        (Call::List(3), "[5]"),
+    ];
+    play(&rt, alloc, &mut exec, &calls)
 }

@@ -4,7 +4,7 @@ use Rattle.executor_core.specs.Alone.{proposal_of, IsBetweenRounds}
 use Rattle.executor_core.proofs.alone.drain.Given as goal
 
 abbrev pub invariant-loop-given : goal.invariant-loop-given
-invariant-loop-given l = IsBetweenRounds l.initial.exec.base (map proposal_of l.initial.exec.tasks) l.exec
+invariant-loop-given l = IsBetweenRounds l.initial.exec.base (map proposal_of l.initial.exec.tasks) l.initial.exec.caps l.initial.exec.hosts l.exec
 
 abbrev pub decreases-loop-given : goal.decreases-loop-given
 decreases-loop-given l = work_left l.exec
