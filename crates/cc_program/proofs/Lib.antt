@@ -1,4 +1,6 @@
-pub mod Alive
+pub mod Ends
+pub mod Evacuated
 pub mod LoadLemmas
+pub mod Made
 pub mod PlanSteps
 pub mod Scan

@@ -4,22 +4,13 @@ use Rattle.serde_json.specs.Data.{string, object, member, no_members}
 use Rattle.serde_json.specs.Written.{compact_text}
 use Rattle.plan_terms.specs.Change.{proposals}
 use Rattle.plan_terms.specs.Cluster.{Cluster}
-use Rattle.plan_terms.specs.Goal.{Meaning}
-use Rattle.plan_terms.specs.Racks.{rack_goal}
 use Rattle.plan_terms.specs.Trace.{Planned, Failed, after_turns}
 use Rattle.plan_terms.specs.declared.actions.Action.{Action}
 use Rattle.proposal_set.specs.Text.{reassignment_text, assignment_text}
+use Rattle.cc_program.specs.Goals.{goals_of, goal_names}
 use Rattle.cc_program.specs.Input.{ClusterLists}
 use Rattle.cc_program.specs.declared.words.Verb.{Verb}
 use Rattle.cc_program.specs.declared.words.Verb.TheVariants.{Plan, Apply}
-
--- the goals, in order of priority
-abbrev pub goals_of : Cluster → List Meaning
-goals_of c = rack_goal c ∷ []
-
--- and their names
-abbrev pub goal_names : List (List ℕ)
-goal_names = codes "RackAwareGoal" ∷ []
 
 -- the JSON of a goal that failed, with its measure as a text
 unfoldable pub failure_text : List ℕ → ℕ → List ℕ
@@ -42,10 +33,9 @@ abbrev pub IsDoneText : Verb → ClusterLists → List ℕ → Type 0
 IsDoneText Plan file text = IsPlanText file text
 IsDoneText Apply file text = IsAppliedText file text
 
--- the text of a failure: the goal at its place and its measure, and a line feed
-pub record IsFailureText (file : ClusterLists) (text : List ℕ) : Type 0 where
+-- the text of a failure: the goal at this place and its measure, and a line feed
+pub record IsFailureText (file : ClusterLists) (place : ℕ) (text : List ℕ) : Type 0 where
   pub turns : List (List Action)
-  pub place : ℕ
   pub left : ℕ
   pub failed : Failed file.cluster (goals_of file.cluster) file.lists turns place left
   pub spelled : text ≡ failure_text (get_or goal_names place []) left ++ 10 ∷ []

@@ -1,14 +1,11 @@
 -- What the program plans for: a cluster with the loads of its samples, its lists and its caps.
 use Rattle.std.specs.Prelude.{ℕ, suc, Bool, true, false, List, [], ◌∷◌, ◌++◌, length, map, fold, Option, Some, None, is_none, if◌then◌else◌, Ok, Err, codes, decimal}
 use Rattle.plan_terms.specs.Cluster.{Cluster, Lists}
-use Rattle.plan_terms.specs.declared.cluster.Broker.{Broker}
-use Rattle.plan_terms.specs.declared.cluster.BrokerState.{BrokerState}
-use Rattle.plan_terms.specs.declared.cluster.BrokerState.TheVariants.{Alive, Dead, New, Demoted}
 use Rattle.plan_terms.specs.declared.cluster.Loads.{Loads}
 use Rattle.plan_terms.specs.declared.cluster.Part.{Part}
 use Rattle.load_model.specs.Changed.{with_loads}
 use Rattle.metric_windows.specs.Samples.{Rules, Sample, refusal, load_of}
-use Rattle.cluster_json.specs.Faults.{Read, unsupported, ◌>>=◌}
+use Rattle.cluster_json.specs.Faults.{Read, ◌>>=◌}
 use Rattle.cluster_json.specs.File.{Meaning, meaning_of}
 use Rattle.cluster_json.specs.declared.config.Caps3.{Caps3}
 use Rattle.cluster_json.specs.declared.config.WindowRules.{WindowRules}
@@ -49,27 +46,10 @@ loaded_from loads i (p ∷ ps) = loaded_one (loads i) p ∷ loaded_from loads (s
 unfoldable pub loaded_cluster : Meaning → Cluster
 loaded_cluster m = record m.cluster { parts = loaded_from (load_of (window_rules m.rules) (accepted (window_rules m.rules) m.samples)) 0 m.cluster.parts }
 
--- a broker that is neither lost, nor being added, nor demoted
-abbrev pub is_alive : BrokerState → Bool
-is_alive Alive = true
-is_alive Dead = false
-is_alive New = false
-is_alive Demoted = false
-
--- the broker at this place is alive; other states aren't planned for yet
-unfoldable pub state_at : ℕ → BrokerState → Read (Unit {0})
-state_at i state = if is_alive state then Ok tt else Err (unsupported (codes "/brokers/" ++ decimal i ++ codes "/state"))
-
--- each broker, of which the first has place i, is alive
-abbrev pub alive_from : ℕ → List Broker → Read (Unit {0})
-alive_from i [] = Ok tt
-alive_from i (b ∷ bs) = state_at i b.state >>= (λ is. alive_from (suc i) bs)
-
 -- what the bytes of a file give to plan for, or the first fault
 unfoldable pub input_of : List ℕ → Read ClusterLists
 input_of bytes = do
   m ← meaning_of bytes
-  alive ← alive_from 0 m.cluster.brokers
   Ok (record { cluster = loaded_cluster m; lists = m.lists; caps = m.caps })
 
 -- the partition at a place with other loads, where there are any

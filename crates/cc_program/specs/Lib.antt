@@ -1,4 +1,5 @@
 pub mod Answers
+pub mod Goals
 pub mod Input
 pub mod Kinds
 pub mod Outcome

@@ -1,11 +1,14 @@
 -- How a run ends, and what each end tells.
-use Rattle.std.specs.Prelude.{◌≡◌, ◌≢◌, ◌⊎◌, ℕ, List, [], ◌∷◌, ◌++◌, codes, Option, Some, None, IfSome, Result, Ok, Err}
+use Rattle.std.specs.Prelude.{◌≡◌, ◌≢◌, ◌⊎◌, ℕ, List, [], ◌∷◌, ◌++◌, codes, get_or, Option, Some, None, IfSome, Result, Ok, Err}
+use Rattle.cluster_json.specs.declared.config.Caps3.{Caps3}
 use Rattle.exec_terms.specs.Machine.{first_unfinished, lists_now}
+use Rattle.exec_terms.specs.declared.brokers.Caps.{Caps}
 use Rattle.plan_terms.specs.Cluster.{Cluster, Lists}
 use Rattle.proposal_set.specs.Text.{assignment_text}
 use Rattle.cc_program.specs.declared.words.Verb.{Verb}
 use Rattle.cc_program.specs.declared.words.Verb.TheVariants as asks
 use Rattle.cc_base.specs.Outside.{HasRisen, appended, IsPrefixOut}
+use Rattle.cc_program.specs.Goals.{goal_names}
 use Rattle.cc_program.specs.Input.{ClusterLists}
 use Rattle.cc_program.specs.Words.{command}
 use Rattle.cc_program.specs.Views.{cluster_lists}
@@ -39,7 +42,7 @@ abbrev pub status_of : End → ℕ
 status_of Done = 0
 status_of Usage = 2
 status_of (Refused line) = 3
-status_of GoalFailed = 4
+status_of (GoalFailed place) = 4
 status_of FileFault = 5
 status_of WriteFault = 7
 status_of Memory = 9
@@ -49,7 +52,7 @@ abbrev pub line_of : End → List ℕ
 line_of Done = []
 line_of Usage = codes "usage error" ++ 10 ∷ []
 line_of (Refused line) = line.items
-line_of GoalFailed = codes "hard goal failed: RackAwareGoal" ++ 10 ∷ []
+line_of (GoalFailed place) = codes "hard goal failed: " ++ get_or goal_names place [] ++ 10 ∷ []
 line_of FileFault = codes "file fault" ++ 10 ∷ []
 line_of WriteFault = codes "write fault" ++ 10 ∷ []
 line_of Memory = codes "want of memory" ++ 10 ∷ []
@@ -69,26 +72,30 @@ abbrev pub Runs : List (List ℕ) → Edge → End → Type 0
 Runs words e Done = (text : List ℕ) × IsAnswer words e.told (λ verb file. IsDoneText verb file text) × (e.written_now ≡ appended e.written_before text)
 Runs words e Usage = (command words ≡ None) × (e.written_now ≡ e.written_before)
 Runs words e (Refused line) = IsRefusal words e.told line.items × (e.written_now ≡ e.written_before)
-Runs words e GoalFailed = (text : List ℕ) × IsAnswer words e.told (λ verb file. IsFailureText file text) × (e.written_now ≡ appended e.written_before text)
+Runs words e (GoalFailed place) = (text : List ℕ) × IsAnswer words e.told (λ verb file. IsFailureText file place text) × (e.written_now ≡ appended e.written_before text)
 Runs words e FileFault = (command words ≢ None) × HasRisen e.files_before e.files_now × (e.written_now ≡ e.written_before)
-Runs words e WriteFault = (text : List ℕ) × IsAnswer words e.told (λ verb file. IsDoneText verb file text ⊎ IsFailureText file text) × HasRisen e.out_before e.out_now × IsPrefixOut e.written_before e.written_now text
+Runs words e WriteFault = (text : List ℕ) × IsAnswer words e.told (λ verb file. IsDoneText verb file text ⊎ ((place : ℕ) × IsFailureText file place text)) × HasRisen e.out_before e.out_now × IsPrefixOut e.written_before e.written_now text
 Runs words e Memory = (command words ≢ None) × (e.written_now ≡ e.written_before)
 
--- what a command made in memory: `plan` the text of a plan, `apply` an execution of the file's lists that is over and the text of
--- its lists, either of them a failure
+-- how many movements there may be at a time, as the executor has it
+abbrev pub exec_caps : Caps3 → Caps
+exec_caps caps = record { broker = caps.broker; cluster = caps.cluster; leader = caps.leader }
+
+-- what a command made in memory: `plan` the text of a plan, `apply` an execution of the file's lists within the file's caps that
+-- is over and the text of its lists, either of them a failure
 abbrev pub IsMade : Verb → ClusterLists → Answer → Type 0
 IsMade verb file (Planned text) = (verb ≡ asks.Plan) × IsDoneText verb file text.items
 IsMade verb file (Applied exec text) =
-    (verb ≡ asks.Apply) × (exec.base ≡ file.lists) × (first_unfinished exec ≡ None)
+    (verb ≡ asks.Apply) × (exec.base ≡ file.lists) × (exec.caps ≡ exec_caps file.caps) × (first_unfinished exec ≡ None)
     × (text.items ≡ assignment_text file.cluster.parts (lists_now exec) ++ 10 ∷ []) × IsDoneText verb file text.items
-IsMade verb file (Failure text) = IsFailureText file text.items
+IsMade verb file (Failure place text) = IsFailureText file place text.items
 
--- an execution from the one assignment to the other that is over, and the text of its lists
-abbrev pub IsApplied : Cluster → Lists → Lists → Answer → Type 0
-IsApplied c before after (Planned text) = ⊥
-IsApplied c before after (Applied exec text) =
-    (exec.base ≡ before) × (first_unfinished exec ≡ None) × (lists_now exec ≡ after) × (text.items ≡ assignment_text c.parts (lists_now exec) ++ 10 ∷ [])
-IsApplied c before after (Failure text) = ⊥
+-- an execution within the caps from the one assignment to the other that is over, and the text of its lists
+abbrev pub IsApplied : Cluster → Caps3 → Lists → Lists → Answer → Type 0
+IsApplied c caps before after (Planned text) = ⊥
+IsApplied c caps before after (Applied exec text) =
+    (exec.base ≡ before) × (exec.caps ≡ exec_caps caps) × (first_unfinished exec ≡ None) × (lists_now exec ≡ after) × (text.items ≡ assignment_text c.parts (lists_now exec) ++ 10 ∷ [])
+IsApplied c caps before after (Failure place text) = ⊥
 
 -- the line is out, or the stream's count of faults rose and a front of the line is out
 abbrev pub IsTold : List ℕ → Option (List ℕ) → Option (List ℕ) → ℕ → ℕ → Type 0

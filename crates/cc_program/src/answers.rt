@@ -1,18 +1,20 @@
 // The texts that answer for a cluster.
 ghost use Rattle.std.specs.Prelude.{◌≡◌, ◌++◌, ◌∷◌, [], codes, false, get_or, length, IfOk};
-ghost use Rattle.std.specs.List.{All};
+ghost use Rattle.std.specs.List.{All, list_any};
 ghost use Rattle.plan_terms.specs.Belongs.{Belongs};
-ghost use Rattle.plan_terms.specs.States.{is_dead};
+ghost use Rattle.plan_terms.specs.Legal.{is_lost};
 ghost use Rattle.cluster_json.specs.Ranges.{AreCaps};
 ghost use Rattle.serde_json.specs.Data.{object, member, string, no_members};
 ghost use Rattle.serde_json.specs.View.{view};
 ghost use Rattle.plan_terms.specs.Change.{proposals};
 ghost use Rattle.exec_terms.specs.Machine.{lists_now};
 ghost use Rattle.proposal_set.specs.Text.{reassignment_text, assignment_text};
-ghost use Rattle.cc_program.specs.Answers.{goal_names, failure_text, IsPlanText, IsFailureText};
+ghost use Rattle.cc_program.specs.Answers.{failure_text, IsPlanText, IsFailureText};
+ghost use Rattle.cc_program.specs.Goals.{goal_names};
 ghost use Rattle.cc_program.specs.Views.{cluster_lists};
 ghost use Rattle.cc_program.specs.Runs.{IsMade, IsApplied};
 
+use crate::goals::PlannedRule;
 use crate::input::Loaded;
 use crate::plan::{Ended, plan_turns};
 use crate::quiet::Answer;
@@ -22,7 +24,7 @@ use exec_terms::Caps;
 use executor_core::{Exec, carry_out};
 use load_model::{Assign, Case, Memory};
 use proposal_set::{assignment_text, proposals, reassignment_text};
-use rack_goals::RackAwareGoal;
+use rack_goals::PartitionGoal;
 use serde_json::{Value, json};
 use std::alloc::Global;
 
@@ -45,7 +47,12 @@ fn failure_text(alloc: Global, name: &str, measure: u128) -> Result<Vec<u8>, Mem
 fn goal_name(place: usize) -> &'static str
     ensures { result.now ≡ get_or goal_names place [] }
 {
-    if place == 0 { "RackAwareGoal" } else { "" }
+    match place {
+        0 => "EvacuationGoal",
+        1 => "RackAwareGoal",
+        2 => "DemotionGoal",
+        _ => "",
+    }
 }
 
 // The text of what leads from the one assignment to the other, and a line feed.
@@ -95,8 +102,8 @@ fn applied(
     requires caps { AreCaps caps.now }
     requires before { Belongs case.now before.now }
     requires after { Belongs case.now after.now }
-    requires alive { All (λ b. is_dead b.state ≡ false) case.now.brokers }
-    ensures { IfOk result (IsApplied case.now before.now after.now) }
+    requires evacuated { All (λ list. list_any (is_lost case.now) list ≡ false) after.now }
+    ensures { IfOk result (IsApplied case.now caps.now before.now after.now) }
 {
     let caps = Caps {
         broker: caps.broker,
@@ -112,18 +119,23 @@ fn applied(
 pub fn answer(alloc: Global, verb: Verb, loaded: &Loaded) -> Result<Answer, Memory>
     requires belongs { Belongs loaded.now.case loaded.now.lists }
     requires caps { AreCaps loaded.now.caps }
-    requires alive { All (λ b. is_dead b.state ≡ false) loaded.now.case.brokers }
     ensures { IfOk result (IsMade verb (cluster_lists loaded.now)) }
 {
     let case = &loaded.case;
     let start = &loaded.lists;
-    let goals = [RackAwareGoal::new(alloc, case)?];
+    let goals = [
+        PartitionGoal::of(PlannedRule::Evacuation),
+        PartitionGoal::of(PlannedRule::RackAware),
+        PartitionGoal::of(PlannedRule::Demotion),
+    ];
     let outcome = plan_turns(alloc, case, start, &goals)?;
     match outcome.ended {
         Ended::Planned => match verb {
             Verb::Plan => Ok(Answer::Planned(change_line(alloc, case, start, &outcome.end)?)),
             Verb::Apply => applied(alloc, case, &loaded.caps, start, &outcome.end),
         },
-        Ended::Failed { place, left } => Ok(Answer::Failure(failure_line(alloc, place, left)?)),
+        Ended::Failed { place, left } => {
+            Ok(Answer::Failure(place, failure_line(alloc, place, left)?))
+        }
     }
 }

@@ -2,6 +2,7 @@
 #![tactic(auto)]
 
 mod answers;
+mod goals;
 mod input;
 mod loads;
 mod plan;

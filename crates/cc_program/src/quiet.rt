@@ -1,15 +1,14 @@
 // The commands that wait for nobody.
-ghost use Rattle.std.specs.Prelude.{◌≡◌, ◌≢◌, ◌≤◌, ◌⊎◌, ◌↔◌, List, ℕ, map, Some, None, false, string_bytes, IfOk};
+ghost use Rattle.std.specs.Prelude.{◌≡◌, ◌≢◌, ◌≤◌, ◌⊎◌, ◌↔◌, ◌++◌, ◌∷◌, [], List, ℕ, codes, get_or, map, Some, None, string_bytes, IfOk};
 ghost use Rattle.cc_base.specs.Outside.{HasRisen, appended, IsPrefixOut};
 ghost use Rattle.plan_terms.specs.Belongs.{Belongs};
 ghost use Rattle.cc_program.specs.Answers.{IsDoneText, IsFailureText};
+ghost use Rattle.cc_program.specs.Goals.{goal_names};
 ghost use Rattle.cc_program.specs.Quiet.{IsRefused, IsAnswer, IsRefusal};
 ghost use Rattle.cc_program.specs.Runs.{Loads, Runs, TellsRefusal, IsTold, status_of, line_of};
 ghost use Rattle.cluster_json.specs.Faults.{Fault};
 ghost use Rattle.cluster_json.specs.Ranges.{AreCaps};
 ghost use Rattle.cluster_json.specs.Reading.{fault_of};
-ghost use Rattle.plan_terms.specs.States.{is_dead};
-ghost use Rattle.std.specs.List.{All};
 ghost use Rattle.cc_program.specs.Words.{Asked, command};
 ghost use Rattle.cc_program.specs.declared.quiet.End.{End};
 
@@ -39,7 +38,8 @@ pub enum End {
     Usage,
     /// The line that tells the file's first fault.
     Refused(Vec<u8>),
-    GoalFailed,
+    /// The place of the hard goal that stays broken.
+    GoalFailed(usize),
     FileFault,
     WriteFault,
     Memory,
@@ -52,8 +52,8 @@ pub enum Answer {
     Planned(Vec<u8>),
     /// An execution that is over, and the text of its lists.
     Applied(Exec, Vec<u8>),
-    /// The text of the goal that fails.
-    Failure(Vec<u8>),
+    /// The place of the goal that fails, and its text.
+    Failure(usize, Vec<u8>),
 }
 
 // A refusal with its line, unless memory ran out.
@@ -74,7 +74,6 @@ fn load<F: Files>(alloc: Global, files: &mut F, name: &str) -> Result<Loaded, Lo
     ensures loads { Loads (F.contents files.old name.now) (F.faults files.old) (F.faults files.new) result }
     ensures belongs { IfOk result (λ loaded. Belongs loaded.case loaded.lists) }
     ensures caps { IfOk result (λ loaded. AreCaps loaded.caps) }
-    ensures alive { IfOk result (λ loaded. All (λ b. is_dead b.state ≡ false) loaded.case.brokers) }
 {
     match files.load(alloc, name) {
         Ok(bytes) => match read_input(alloc, &bytes) {
@@ -121,8 +120,8 @@ fn run<F: Files, O: Sink>(alloc: Global, words: &[String], files: &mut F, out: &
             Ok(()) => End::Done,
             Err(_) => End::WriteFault,
         },
-        Answer::Failure(text) => match write_all_of(out, &text) {
-            Ok(()) => End::GoalFailed,
+        Answer::Failure(place, text) => match write_all_of(out, &text) {
+            Ok(()) => End::GoalFailed(place),
             Err(_) => End::WriteFault,
         },
     }
@@ -135,10 +134,21 @@ fn status(end: &End) -> u8
         End::Done => 0,
         End::Usage => 2,
         End::Refused(_) => 3,
-        End::GoalFailed => 4,
+        End::GoalFailed(_) => 4,
         End::FileFault => 5,
         End::WriteFault => 7,
         End::Memory => 9,
+    }
+}
+
+fn failure_line(place: usize) -> &'static [u8]
+    ensures { result.now ≡ codes "hard goal failed: " ++ get_or goal_names place [] ++ 10 ∷ [] }
+{
+    match place {
+        0 => b"hard goal failed: EvacuationGoal\n",
+        1 => b"hard goal failed: RackAwareGoal\n",
+        2 => b"hard goal failed: DemotionGoal\n",
+        _ => b"hard goal failed: \n",
     }
 }
 
@@ -149,7 +159,7 @@ fn line(end: &End) -> &[u8]
         End::Done => b"",
         End::Usage => b"usage error\n",
         End::Refused(line) => line.as_slice(),
-        End::GoalFailed => b"hard goal failed: RackAwareGoal\n",
+        End::GoalFailed(place) => failure_line(*place),
         End::FileFault => b"file fault\n",
         End::WriteFault => b"write fault\n",
         End::Memory => b"want of memory\n",
@@ -188,9 +198,10 @@ pub fn run_quiet<R: Threads + Sync, F: Files, I: Source, O: Sink>(
     // 0: the output grew by the text of a plan for what the file means, or of all lists at the end of one.
     ensures planned { result ≡ 0 → (text : List ℕ) × IsAnswer (map string_bytes words.now) (F.contents files.old) (λ verb file. IsDoneText verb file text)
         × (O.written out.new ≡ appended (O.written out.old) text) }
-    // 4: the output grew by the text of a failure for what the file means.
-    ensures failed { result ≡ 4 → (text : List ℕ) × IsAnswer (map string_bytes words.now) (F.contents files.old) (λ verb file. IsFailureText file text)
-        × (O.written out.new ≡ appended (O.written out.old) text) }
+    // 4: the output grew by the text of a failure for what the file means, and the line tells its goal.
+    ensures failed { result ≡ 4 → (place : ℕ) × (text : List ℕ) × IsAnswer (map string_bytes words.now) (F.contents files.old) (λ verb file. IsFailureText file place text)
+        × (O.written out.new ≡ appended (O.written out.old) text)
+        × IsTold (codes "hard goal failed: " ++ get_or goal_names place [] ++ 10 ∷ []) (O.written err.old) (O.written err.new) (O.faults err.old) (O.faults err.new) }
     // 2: exactly where the words are no command.
     ensures usage { (result ≡ 2) ↔ (command (map string_bytes words.now) ≡ None) }
     // 3: only where the file has a fault, whose line is told, and there unless the files or memory fail.
@@ -202,7 +213,7 @@ pub fn run_quiet<R: Threads + Sync, F: Files, I: Source, O: Sink>(
     ensures files { result ≡ 5 → HasRisen (F.faults files.old) (F.faults files.new) }
     // 7: only where the output's count rose. A front of the text is out.
     ensures output { result ≡ 7 → HasRisen (O.faults out.old) (O.faults out.new) }
-    ensures prefix { result ≡ 7 → (text : List ℕ) × IsAnswer (map string_bytes words.now) (F.contents files.old) (λ verb file. IsDoneText verb file text ⊎ IsFailureText file text)
+    ensures prefix { result ≡ 7 → (text : List ℕ) × IsAnswer (map string_bytes words.now) (F.contents files.old) (λ verb file. IsDoneText verb file text ⊎ ((place : ℕ) × IsFailureText file place text))
         × IsPrefixOut (O.written out.old) (O.written out.new) text }
     // Nothing else is written, and there is no other status.
     ensures silent { result ≢ 0 → result ≢ 4 → result ≢ 7 → O.written out.new ≡ O.written out.old }

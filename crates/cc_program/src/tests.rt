@@ -29,8 +29,14 @@ const TWO_RACKS_FOR_THREE: &str =
 const TWICE_BROKER_0: &str =
     "{\"version\":1,\"brokers\":[{\"id\":0},{\"id\":0}],\"partitions\":[]}";
 
-const LOST_BROKER: &str =
-    "{\"version\":1,\"brokers\":[{\"id\":0},{\"id\":1,\"state\":\"DEAD\"}],\"partitions\":[]}";
+const LOST_ALONE: &str =
+    "{\"version\":1,\"brokers\":[{\"id\":0,\"state\":\"DEAD\"}],\"partitions\":[{\"topic\":\"t\",\"partition\":0,\"replicas\":[0]}]}";
+
+const LOST_AMONG_THREE: &str =
+    "{\"version\":1,\"brokers\":[{\"id\":0,\"state\":\"DEAD\"},{\"id\":1},{\"id\":2}],\"partitions\":[{\"topic\":\"t\",\"partition\":0,\"replicas\":[1,0]}]}";
+
+const DEMOTED_LEADER: &str =
+    "{\"version\":1,\"brokers\":[{\"id\":0,\"state\":\"DEMOTED\"},{\"id\":1,\"state\":\"ALIVE\"}],\"partitions\":[{\"topic\":\"t\",\"partition\":0,\"replicas\":[0]}]}";
 
 const UNKNOWN_SETTING: &str =
     "{\"version\":1,\"brokers\":[{\"id\":0}],\"partitions\":[],\"config\":{\"a\":\"1\"}}";
@@ -136,7 +142,10 @@ fn expect_command<R: Threads + Sync + Abort + AllocGlobal>(
 fn answers_files(rt: HostRuntime) -> Result<(), Fail> {
     let moved =
         "{\"partitions\":[{\"partition\":0,\"replicas\":[2,1],\"topic\":\"t\"}],\"version\":1}\n";
-    let failed = "hard goal failed: RackAwareGoal\n";
+    let drained =
+        "{\"partitions\":[{\"partition\":0,\"replicas\":[1,2],\"topic\":\"t\"}],\"version\":1}\n";
+    let led =
+        "{\"partitions\":[{\"partition\":0,\"replicas\":[1],\"topic\":\"t\"}],\"version\":1}\n";
     let rows = [
         (THREE_BROKERS, 0, moved, ""),
         (NO_PARTITION, 0, "{\"partitions\":[],\"version\":1}\n", ""),
@@ -144,8 +153,16 @@ fn answers_files(rt: HostRuntime) -> Result<(), Fail> {
             TWO_RACKS_FOR_THREE,
             4,
             "{\"failed\":\"RackAwareGoal\",\"measure\":\"1\"}\n",
-            failed,
+            "hard goal failed: RackAwareGoal\n",
         ),
+        (
+            LOST_ALONE,
+            4,
+            "{\"failed\":\"EvacuationGoal\",\"measure\":\"1\"}\n",
+            "hard goal failed: EvacuationGoal\n",
+        ),
+        (LOST_AMONG_THREE, 0, drained, ""),
+        (DEMOTED_LEADER, 0, led, ""),
     ];
     for (text, status, out, err) in rows {
         let expected = Expected { status, out, err };
@@ -167,10 +184,6 @@ fn refuses_files(rt: HostRuntime) -> Result<(), Fail> {
         (TWICE_BROKER_0, "cluster refused: DuplicateBroker 0\n"),
         ("{", "cluster refused: NotJson\n"),
         ("[]", "cluster refused: WrongShape \n"),
-        (
-            LOST_BROKER,
-            "cluster refused: Unsupported /brokers/1/state\n",
-        ),
         (UNKNOWN_SETTING, "cluster refused: BadConfig a\n"),
         (
             TWO_DISKS,

@@ -2,7 +2,7 @@
 ghost use Rattle.goal_terms.specs.Partitions.{demoted_first};
 ghost use Rattle.plan_terms.specs.Cluster.{some_broker};
 ghost use Rattle.plan_terms.specs.States.{is_demoted};
-ghost use Rattle.std.specs.Prelude.{◌≡◌, ◌≤◌, false, length, IfOk};
+ghost use Rattle.std.specs.Prelude.{◌≡◌, ◌≤◌, false, length};
 
 use crate::partition::{ListRule, PartitionGoal};
 use load_model::{Case, Memory};
@@ -25,6 +25,13 @@ fn is_demoted(case: &Case, id: u32) -> bool
     }
 }
 
+impl DemotionGoal {
+    /// The goal for the case.
+    pub fn new(_alloc: Global, _case: &Case) -> Result<Self, Memory> {
+        Ok(PartitionGoal::of(DemotionRule))
+    }
+}
+
 impl ListRule for DemotionRule {
     ghost use Rattle.goal_terms.proofs.PartitionGoals.{demoted_first-le};
 
@@ -33,10 +40,6 @@ impl ListRule for DemotionRule {
     ghost hard = { λ _. false };
 
     ghost made_for = { λ _ _. Unit {0} };
-
-    fn new(_alloc: Global, _case: &Case) -> Result<Self, Memory> {
-        Ok(DemotionRule)
-    }
 
     fn is_hard(&self) -> bool {
         false

@@ -2,7 +2,7 @@
 ghost use Rattle.goal_terms.specs.Partitions.{lost_members};
 ghost use Rattle.plan_terms.specs.Legal.{is_lost};
 ghost use Rattle.std.specs.List.{count_by};
-ghost use Rattle.std.specs.Prelude.{◌≡◌, ◌≤◌, true, length, IfOk};
+ghost use Rattle.std.specs.Prelude.{◌≡◌, ◌≤◌, true, length};
 
 use crate::partition::{ListRule, PartitionGoal};
 use load_model::{Case, Memory};
@@ -17,6 +17,13 @@ pub struct EvacuationRule;
 /// It is what Cruise Control asks when it removes or heals brokers.
 pub type EvacuationGoal = PartitionGoal<EvacuationRule>;
 
+impl EvacuationGoal {
+    /// The goal for the case.
+    pub fn new(_alloc: Global, _case: &Case) -> Result<Self, Memory> {
+        Ok(PartitionGoal::of(EvacuationRule))
+    }
+}
+
 impl ListRule for EvacuationRule {
     ghost use Rattle.goal_terms.proofs.PartitionGoals.{lost_members-le};
 
@@ -25,10 +32,6 @@ impl ListRule for EvacuationRule {
     ghost hard = { λ _. true };
 
     ghost made_for = { λ _ _. Unit {0} };
-
-    fn new(_alloc: Global, _case: &Case) -> Result<Self, Memory> {
-        Ok(EvacuationRule)
-    }
 
     fn is_hard(&self) -> bool {
         true

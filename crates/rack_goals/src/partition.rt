@@ -2,15 +2,14 @@
 ghost use Rattle.goal_terms.specs.Heats.{partition_heat};
 ghost use Rattle.goal_terms.specs.PerBroker.{id_at};
 ghost use Rattle.std.specs.List.{list_any};
-ghost use Rattle.std.specs.Prelude.{◌≡◌, ℕ, Bool, ◌<◌, ◌≤◌, ◌^◌, ◌↔◌, ◌&&◌, nat_lt, IsTrue, IfOk, List, length, take, slice_set, false, ◌+◌, None};
+ghost use Rattle.std.specs.Prelude.{◌≡◌, ℕ, Bool, ◌<◌, ◌≤◌, ◌^◌, ◌↔◌, ◌&&◌, nat_lt, IsTrue, List, length, take, slice_set, false, ◌+◌, None};
 ghost use Rattle.plan_terms.specs.Cluster.{Cluster, Lists, list_of, has, leads};
 ghost use Rattle.plan_terms.specs.Effect.{replace, exchange_first, after};
 ghost use Rattle.plan_terms.specs.Goal.{Meaning, Accepts, Lessens, per_partition};
 
-use load_model::{Case, LoadBook, Memory, Replicas};
+use load_model::{Case, LoadBook, Replicas};
 use move_actions::{Goal, Heat, place_of};
 use plan_terms::Action;
-use std::alloc::Global;
 
 /// What a goal asks of one list.
 pub trait ListRule: Sized {
@@ -22,10 +21,6 @@ pub trait ListRule: Sized {
 
     /// The rule was made for the cluster.
     ghost made_for: { Self → Cluster → Type 0 };
-
-    /// The rule for the case.
-    fn new(alloc: Global, case: &Case) -> Result<Self, Memory>
-        ensures { IfOk result (λ rule. made_for rule case.now) };
 
     /// Whether a plan fails where a list exceeds the rule.
     fn is_hard(&self) -> bool
@@ -73,13 +68,11 @@ fn changed_twice(list: &[u32], first: usize, second: usize, one: u32, two: u32) 
 }
 
 impl<R: ListRule> PartitionGoal<R> {
-    /// The goal for the case.
-    pub fn new(alloc: Global, case: &Case) -> Result<Self, Memory>
-        ensures { IfOk result (λ goal. R.made_for goal.rule case.now) }
+    /// The goal of a rule.
+    pub fn of(rule: R) -> Self
+        ensures { result.rule ≡ rule }
     {
-        Ok(PartitionGoal {
-            rule: R::new(alloc, case)?,
-        })
+        PartitionGoal { rule }
     }
 }
 

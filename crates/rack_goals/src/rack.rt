@@ -1,5 +1,5 @@
 // The rack rule: members minus their distinct racks.
-ghost use Rattle.std.specs.Prelude.{◌≡◌, ℕ, ◌+◌, ◌<◌, ◌≤◌, true, List, length, drop, OnOk, IfOk, option_map};
+ghost use Rattle.std.specs.Prelude.{◌≡◌, ℕ, ◌+◌, ◌<◌, ◌≤◌, true, List, length, drop, option_map};
 ghost use Rattle.std.specs.List.{list_any};
 ghost use Rattle.plan_terms.specs.Cluster.{Cluster};
 ghost use Rattle.plan_terms.specs.Racks.{rack_of, same_rack, rack_count, rack_excess, equal_racks};
@@ -71,6 +71,13 @@ fn count_racks(case: &Case, list: &[u32]) -> usize
     racks
 }
 
+impl RackAwareGoal {
+    /// The goal for the case.
+    pub fn new(_alloc: Global, _case: &Case) -> Result<Self, Memory> {
+        Ok(PartitionGoal::of(RackRule))
+    }
+}
+
 impl ListRule for RackRule {
     ghost use Rattle.plan_terms.proofs.RackLemmas.{rack_excess-le};
 
@@ -79,10 +86,6 @@ impl ListRule for RackRule {
     ghost hard = { λ _. true };
 
     ghost made_for = { λ _ _. Unit {0} };
-
-    fn new(_alloc: Global, _case: &Case) -> Result<Self, Memory> {
-        Ok(RackRule)
-    }
 
     fn is_hard(&self) -> bool {
         true

@@ -1,7 +1,6 @@
 use Rattle.std.proofs.Common.{◌≡◌}
 use Rattle.metric_windows.specs.Samples.{load_of}
 use Rattle.cc_program.specs.Input.{accepted, loaded_cluster, window_rules}
-use Rattle.cc_program.proofs.Alive.{none_dead}
 use Rattle.cc_program.proofs.LoadLemmas.{Belongs-loaded}
 use Rattle.cc_program.proofs.input.read_input.Goals as goal
 
@@ -10,7 +9,3 @@ unfolding loaded_cluster
 returns-clause-belongs c =
     let rules = window_rules c.in_ok-file.file.rules in
     rw c.in_ok-case.ensures (Belongs-loaded (load_of rules (accepted rules c.in_ok-file.file.samples.items)) c.in_ok-file.file.case c.in_ok-file.file.lists c.in_ok-file.ensures.file.belongs)
-
-pub returns-clause-alive : goal.returns-clause-alive
-unfolding loaded_cluster
-returns-clause-alive c = rw c.in_ok-case.ensures (none_dead 0 c.in_ok-file.file.case.brokers (rw c.brokers.ensures.value at c.in_ok-check_states.ensures))
