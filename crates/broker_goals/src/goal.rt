@@ -42,8 +42,7 @@ impl<A: Amount, B: Band, S: Strength> BrokerGoal<A, B, S> {
 impl<A: NewAmount, B: NewBand, S: Strength> BrokerGoal<A, B, S> {
     /// The goal for the case.
     pub fn new(_alloc: Global, case: &Case) -> Result<Self, Memory>
-        ensures amount { IfOk result (λ goal. A.made_for goal.kind case.now) }
-        ensures band { IfOk result (λ goal. B.made_for goal.band case.now) }
+        ensures { IfOk result (λ goal. A.made_for goal.kind case.now × B.made_for goal.band case.now) }
     {
         Ok(BrokerGoal {
             kind: A::new(),
