@@ -14,7 +14,9 @@ mod usage;
 pub use amount::{Amount, LeaderIn, Leaders, Load, NewAmount, PotentialOut, Replicas};
 pub use band::{Band, NewBand};
 pub use capacity::{AtMost, WithinCapacity};
-pub use excess::{excess_at_place, heat_at_place, total_of, unit_count};
+pub use excess::{
+    amount_at, broker_at, excess_at_place, heat_at_place, total_of, unit_count, unit_excess,
+};
 pub use goal::BrokerGoal;
 pub use names::{
     Balance, Cpu, Disk, Hard, LeaderBalance, NetworkIn, NetworkOut, ReplicaBalance, Resource, Soft,
