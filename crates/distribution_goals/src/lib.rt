@@ -2,8 +2,10 @@
 #![tactic(auto)]
 
 mod goals;
+mod topic;
 
 pub use goals::{
     CpuUsageDistributionGoal, DiskUsageDistributionGoal, NetworkInboundUsageDistributionGoal,
     NetworkOutboundUsageDistributionGoal, ReplicaDistributionGoal, meanings,
 };
+pub use topic::{TopicBalance, TopicReplicaDistributionGoal, TopicReplicas};
