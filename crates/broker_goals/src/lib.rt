@@ -15,8 +15,8 @@ pub use amount::{Amount, LeaderIn, Leaders, Load, NewAmount, PotentialOut, Repli
 pub use band::{Band, NewBand};
 pub use capacity::{AtMost, WithinCapacity};
 pub use excess::{
-    amount_at, broker_at, excess_at_place, heat_at_place, total_of, unit_count,
-    unit_excess, unit_place,
+    amount_at, broker_at, excess_at_place, heat_at_place, total_of, unit_count, unit_excess,
+    unit_place,
 };
 pub use goal::BrokerGoal;
 pub use names::{

@@ -1,4 +1,4 @@
-use Rattle.std.proofs.Common.{◌≡◌, ◌∙◌, sym, ap}
+use Rattle.std.proofs.Common.{◌∙◌, sym}
 use Rattle.goal_terms.proofs.CaseLemmas.{Limits-case}
 use Rattle.goal_terms.proofs.PlaceLemmas.{heat_at_id-place}
 use Rattle.goal_terms.specs.Heats.{bound_heat}

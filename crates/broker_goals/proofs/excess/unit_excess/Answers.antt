@@ -1,4 +1,4 @@
-use Rattle.std.proofs.Common.{◌≡◌, ◌∙◌, sym}
+use Rattle.std.proofs.Common.{◌∙◌, sym}
 use Rattle.goal_terms.proofs.CaseLemmas.{Limits-case}
 use Rattle.goal_terms.proofs.PlaceLemmas.{at_id-place}
 use Rattle.goal_terms.specs.PerBroker.{bound_excess}

@@ -1,4 +1,4 @@
-use Rattle.std.proofs.Common.{◌≡◌, ◌∙◌, ◌+◌, ◌-◌, ◌<◌, ◌≤◌, ◌^◌, sym, refl, arith}
+use Rattle.std.proofs.Common.{sym, refl, arith}
 use Rattle.goal_terms.proofs.PlaceLemmas.{id-placed, at_id-unplaced}
 use Rattle.broker_goals.proofs.sides.side_of.Goals as goal
 

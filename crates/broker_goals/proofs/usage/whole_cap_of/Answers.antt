@@ -1,4 +1,4 @@
-use Rattle.std.proofs.Common.{◌≡◌, ◌∙◌, sym, arith}
+use Rattle.std.proofs.Common.{◌∙◌, sym, arith}
 use Rattle.std.specs.Prelude.{slice_index}
 use Rattle.goal_terms.proofs.BandLemmas.{whole_cap-le}
 use Rattle.goal_terms.proofs.CaseLemmas.{Limits-case}

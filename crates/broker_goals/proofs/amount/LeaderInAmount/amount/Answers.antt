@@ -1,4 +1,4 @@
-use Rattle.std.proofs.Common.{◌≡◌, ◌∙◌, sym, ap}
+use Rattle.std.proofs.Common.{◌∙◌, sym, ap}
 use Rattle.goal_terms.proofs.ReadingLemmas.{quantity-leader_in}
 use Rattle.goal_terms.specs.PerBroker.{id_at}
 use Rattle.plan_terms.specs.Cluster.{Cluster}

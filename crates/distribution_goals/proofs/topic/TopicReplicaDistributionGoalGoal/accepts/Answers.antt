@@ -1,4 +1,4 @@
-use Rattle.std.proofs.Common.{◌≡◌, ◌∙◌, ℕ, List, [], get_or, false, ap}
+use Rattle.std.proofs.Common.{◌∙◌, ℕ, List, [], get_or, false, ap}
 use Rattle.goal_terms.proofs.CaseLemmas.{Limits-case}
 use Rattle.goal_terms.proofs.TopicGoalLemmas.{accepts-then, accepts-else}
 use Rattle.goal_terms.specs.Bands.{even, units_of}

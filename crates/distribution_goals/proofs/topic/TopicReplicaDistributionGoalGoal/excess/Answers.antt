@@ -1,4 +1,4 @@
-use Rattle.std.proofs.Common.{◌≡◌, ◌∙◌, ◌<◌, [], length, sym, ap, arith}
+use Rattle.std.proofs.Common.{◌∙◌, ◌<◌, [], length, sym, ap, arith}
 use Rattle.goal_terms.proofs.TopicGoalLemmas.{unit-later, unit-within}
 use Rattle.goal_terms.specs.Bands.{even, units_of}
 use Rattle.goal_terms.specs.PerBroker.{unit_brokers}

@@ -1,4 +1,4 @@
-use Rattle.std.proofs.Common.{◌≡◌, ℕ, ◌*◌, ◌<◌, get_or, length, drop}
+use Rattle.std.proofs.Common.{◌≡◌, ◌*◌, ◌<◌, get_or, length, drop}
 use Rattle.goal_terms.specs.PerTopic.{topic_excesses}
 use Rattle.goal_terms.specs.Bands.{even, units_of}
 use Rattle.distribution_goals.proofs.topic.TopicReplicaDistributionGoalGoal.excess.Given as goal

@@ -1,4 +1,4 @@
-use Rattle.std.proofs.Common.{◌≡◌, ◌∙◌, ℕ, List, [], get_or, false, sym, ap}
+use Rattle.std.proofs.Common.{◌∙◌, ℕ, List, [], get_or, false, sym, ap}
 use Rattle.goal_terms.proofs.CaseLemmas.{Limits-case}
 use Rattle.goal_terms.proofs.TopicGoalLemmas.{Lessens-one-topic, Lessens-two-topics}
 use Rattle.goal_terms.specs.Bands.{even, units_of}

@@ -1,9 +1,8 @@
-use Rattle.std.proofs.Common.{◌≡◌, ◌∙◌, ◌<◌, length, sym, ap}
+use Rattle.std.proofs.Common.{◌∙◌, sym, ap}
 use Rattle.goal_terms.proofs.ReadingLemmas.{quantity-topic}
 use Rattle.goal_terms.specs.PerBroker.{id_at}
 use Rattle.load_model.specs.Places.{topic_at}
 use Rattle.plan_terms.specs.Cluster.{Cluster}
-use Rattle.plan_terms.specs.Faults.{topics}
 use Rattle.plan_terms.specs.Load.{topic_count}
 use Rattle.distribution_goals.proofs.topic.TopicReplicasAmount.amount.Goals as goal
 
