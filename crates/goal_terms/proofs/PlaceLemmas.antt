@@ -1,12 +1,11 @@
 -- A broker by its place among all, and what is said of the one of its id.
-use Rattle.std.specs.Prelude.{if◌then◌else◌, ◌==◌, ◌||◌, not, cond, map}
+use Rattle.std.specs.Prelude.{if◌then◌else◌, ◌==◌, ◌||◌, cond, map}
 use Rattle.std.proofs.Common.{◌≡◌, ◌∙◌, ℕ, ◌+◌, ◌<◌, ◌≤◌, Bool, true, false, List, [], ◌∷◌, length, get_or, drop, zero, suc, refl, ap, sym, arith, eq-eqb, add-one, position, Some, None, inl, inr}
-use Rattle.std.specs.List.{sum_by, list_any, position_or_len}
+use Rattle.std.specs.List.{sum_by, position_or_len}
 use Rattle.std.proofs.lemmas.Bool.{ne_eqb, cases_Bool, eqb-true, and_parts, or_left, or_right, or_parts, false≢true, not-true, ltb-false}
-use Rattle.std.proofs.lemmas.List.{get_or-map, length-map}
+use Rattle.std.proofs.lemmas.List.{get_or-map}
 use Rattle.std.proofs.lemmas.List.Quantifiers.{position-Some}
 use Rattle.std.proofs.lemmas.List.Sums.{sum_by-cons}
-use Rattle.plan_terms.specs.Belongs.{distinct}
 use Rattle.plan_terms.specs.Cluster.{has}
 use Rattle.plan_terms.specs.States.{is_dead}
 use Rattle.plan_terms.specs.declared.cluster.Broker.{Broker}
