@@ -19,8 +19,11 @@ pub type DiskCapacityGoal = BrokerGoal<Load<Disk>, WithinCapacity<Disk>, Hard>;
 pub type NetworkInboundCapacityGoal = BrokerGoal<Load<NetworkIn>, WithinCapacity<NetworkIn>, Hard>;
 
 /// The same of what goes out over the network: Cruise Control's NetworkOutboundCapacityGoal.
-pub type NetworkOutboundCapacityGoal =
-    BrokerGoal<Load<NetworkOut>, WithinCapacity<NetworkOut>, Hard>;
+pub type NetworkOutboundCapacityGoal = BrokerGoal<
+    Load<NetworkOut>,
+    WithinCapacity<NetworkOut>,
+    Hard,
+>;
 
 /// The same of the processors: Cruise Control's CpuCapacityGoal.
 pub type CpuCapacityGoal = BrokerGoal<Load<Cpu>, WithinCapacity<Cpu>, Hard>;

@@ -3,9 +3,7 @@ ghost use Rattle.plan_terms.specs.Belongs.{Belongs};
 ghost use Rattle.std.specs.Prelude.{◌≡◌, IfOk, length, slice_index};
 
 use super::*;
-use load_model::{
-    Assign, Broker, BrokerState, Case, LoadBook, Loads, Options, Part, Ratio, Topic,
-};
+use load_model::{Assign, Broker, BrokerState, Case, LoadBook, Loads, Options, Part, Ratio, Topic};
 use move_actions::measure;
 use std::alloc::Global;
 use std::test::Fail;
@@ -64,12 +62,7 @@ fn led_by(alloc: Global, case: &Case, leader: u32) -> Result<Assign, Fail>
 }
 
 // How far the disks exceed the goal.
-fn disk_excess(
-    alloc: Global,
-    brokers: Vec<Broker>,
-    disk: u64,
-    leader: u32,
-) -> Result<u128, Fail> {
+fn disk_excess(alloc: Global, brokers: Vec<Broker>, disk: u64, leader: u32) -> Result<u128, Fail> {
     let case = case(alloc, brokers, disk)?;
     let lists = led_by(alloc, &case, leader)?;
     let book = LoadBook::new(alloc, &case, &lists)?;
