@@ -9,6 +9,7 @@ pub mod LoopLemmas
 pub mod PairLemmas
 pub mod PartitionGoals
 pub mod PartitionHeat
+pub mod PlaceLemmas
 pub mod ReadingLemmas
 pub mod SideLemmas
 pub mod TopicGoalLemmas

@@ -1,0 +1,106 @@
+// Goals over brokers: the two brokers of an action decide what it does.
+ghost use Rattle.goal_terms.specs.Heats.{broker_heat};
+ghost use Rattle.goal_terms.specs.PerBroker.{broker_excess, per_broker, id_at, unit_brokers};
+ghost use Rattle.goal_terms.specs.Quantity.{part_weight};
+ghost use Rattle.goal_terms.specs.Sides.{sides};
+ghost use Rattle.std.specs.Prelude.{◌≡◌, ◌+◌, ◌<◌, ◌≤◌, ◌^◌, IfOk, IsTrue, Some, get_or, length, map};
+
+use crate::amount::{Amount, NewAmount};
+use crate::band::{Band, NewBand};
+use crate::excess::{excess_at_place, heat_at_place, unit_count, unit_place};
+use crate::names::Strength;
+use crate::sides::{place_weight, sides_of};
+use load_model::{Case, LoadBook, Memory};
+use move_actions::{Goal, Heat};
+use plan_terms::Action;
+use std::alloc::Global;
+use std::marker::PhantomData;
+
+/// The goal that no broker's quantity `A` lies outside the bounds `B`, which is as strong as `S` says. Its units are the
+/// brokers that aren't lost, in order.
+#[derive(Drop)]
+pub struct BrokerGoal<A, B, S> {
+    kind: A,
+    band: B,
+    strength: PhantomData<S>,
+}
+
+impl<A: Amount, B: Band, S: Strength> BrokerGoal<A, B, S> {
+    /// The goal of this quantity and these bounds.
+    pub fn of(kind: A, band: B) -> Self
+        ensures kind { result.kind ≡ kind }
+        ensures band { result.band ≡ band }
+    {
+        BrokerGoal {
+            kind,
+            band,
+            strength: PhantomData,
+        }
+    }
+}
+
+impl<A: NewAmount, B: NewBand, S: Strength> BrokerGoal<A, B, S> {
+    /// The goal for the case.
+    pub fn new(_alloc: Global, case: &Case) -> Result<Self, Memory>
+        ensures { IfOk result (λ goal. A.made_for goal.kind case.now × B.made_for goal.band case.now) }
+    {
+        Ok(BrokerGoal {
+            kind: A::new(),
+            band: B::new(case),
+            strength: PhantomData,
+        })
+    }
+}
+
+impl<A: Amount, B: Band, S: Strength> Goal for BrokerGoal<A, B, S> {
+    ghost use Rattle.goal_terms.proofs.BoundLemmas.{per_broker-fits_120_bits};
+    ghost use Rattle.goal_terms.proofs.CaseLemmas.{Limits-case};
+    ghost use Rattle.goal_terms.proofs.PairLemmas.{broker-cold_pairs, broker-idle_trades};
+
+    ghost meaning = { λ g c. per_broker S.HARD (A.weights g.kind) (B.bounds g.band c) c };
+
+    ghost made_for = { λ g c. A.made_for g.kind c × B.made_for g.band c };
+
+    ghost heat_at = { λ g c lists k. broker_heat (A.weights g.kind) (B.bounds g.band c) c lists k };
+
+    ghost weighs = { λ g. Some (A.weights g.kind) };
+
+    fn is_hard(&self, _case: &Case) -> bool {
+        S::HARD
+    }
+
+    fn units(&self, case: &Case) -> usize {
+        unit_count(case.brokers())
+    }
+
+    fn excess(&self, case: &Case, book: &LoadBook, unit: usize) -> u128 {
+        let place = unit_place(case.brokers(), unit);
+        excess_at_place(&self.kind, &self.band, case, book, place)
+    }
+
+    fn accepts(&self, case: &Case, book: &LoadBook, action: Action) -> bool {
+        let _brokers = case.brokers();
+        let sides = sides_of(&self.kind, &self.band, case, book, action);
+        sides.giver_after <= sides.giver && sides.taker_after <= sides.taker
+    }
+
+    fn lessens(&self, case: &Case, book: &LoadBook, action: Action) -> bool {
+        let _brokers = case.brokers();
+        let sides = sides_of(&self.kind, &self.band, case, book, action);
+        sides.giver_after + sides.taker_after < sides.giver + sides.taker
+    }
+
+    fn heat(&self, case: &Case, book: &LoadBook, broker: usize) -> Heat {
+        heat_at_place(&self.kind, &self.band, case, book, broker)
+    }
+
+    fn weight(&self, case: &Case, part: u32, leads: bool) -> Option<u64> {
+        Some(place_weight(&self.kind, case, part, leads))
+    }
+
+    ghost small = { λ g c lists made is_case fits. let limits = Limits-case c is_case in per_broker-fits_120_bits (A.weights g.kind) c lists limits (λ k d l. A.small_weights g.kind (get_or c.parts k d) (limits.loads k d l)) fits S.HARD (B.bounds g.band c) (B.small_bounds g.band c made.1 is_case) };
+
+    ghost cold_pairs = { λ g c lists _ is_case fits. broker-cold_pairs S.HARD (A.weights g.kind) (B.bounds g.band c) c lists (Limits-case c is_case) fits };
+
+    ghost idle_trades = { λ g c lists _ is_case fits. broker-idle_trades S.HARD (A.weights g.kind) (B.bounds g.band c) c lists (Limits-case c is_case) fits };
+}

@@ -1,0 +1,120 @@
+// Types that name a resource, a threshold, or whether a goal is hard.
+ghost use Rattle.plan_terms.specs.Fraction.{Fraction};
+ghost use Rattle.plan_terms.specs.declared.cluster.Options.{Options};
+ghost use Rattle.std.proofs.Common.{arith};
+ghost use Rattle.std.specs.Prelude.{◌≡◌, ◌<◌, ℕ, Bool, true, false};
+
+use load_model::{Options, Ratio};
+
+/// A resource of brokers.
+pub trait Resource {
+    /// Its place among the four resources.
+    ghost resource: { ℕ };
+
+    /// Its place among the four resources, below 4.
+    fn place() -> usize
+        ensures value { result ≡ resource }
+        ensures within { result < 4 };
+}
+
+/// The processors, in percent.
+pub struct Cpu;
+
+impl Resource for Cpu {
+    ghost resource = { 0 };
+
+    fn place() -> usize {
+        0
+    }
+}
+
+/// What comes in from clients and other brokers, in KB/s.
+pub struct NetworkIn;
+
+impl Resource for NetworkIn {
+    ghost resource = { 1 };
+
+    fn place() -> usize {
+        1
+    }
+}
+
+/// What goes out to clients, in KB/s.
+pub struct NetworkOut;
+
+impl Resource for NetworkOut {
+    ghost resource = { 2 };
+
+    fn place() -> usize {
+        2
+    }
+}
+
+/// Disk space, in MB.
+pub struct Disk;
+
+impl Resource for Disk {
+    ghost resource = { 3 };
+
+    fn place() -> usize {
+        3
+    }
+}
+
+/// A threshold for how evenly a count is spread.
+pub trait Balance {
+    /// The threshold among a request's options.
+    ghost threshold: { Options → Fraction };
+
+    /// The threshold among a request's options.
+    fn ratio(options: &Options) -> Ratio
+        ensures { result ≡ threshold options.now };
+}
+
+/// The threshold for the replicas of a broker.
+pub struct ReplicaBalance;
+
+impl Balance for ReplicaBalance {
+    ghost threshold = { λ o. o.replica_balance };
+
+    fn ratio(options: &Options) -> Ratio {
+        options.replica_balance
+    }
+}
+
+/// The threshold for the partitions that a broker leads.
+pub struct LeaderBalance;
+
+impl Balance for LeaderBalance {
+    ghost threshold = { λ o. o.leader_balance };
+
+    fn ratio(options: &Options) -> Ratio {
+        options.leader_balance
+    }
+}
+
+/// Whether a plan fails where a goal stays broken.
+pub trait Strength {
+    ghost HARD: { Bool };
+
+    /// Whether a plan fails.
+    const HARD: bool;
+}
+
+/// A plan fails.
+pub struct Hard;
+
+impl Strength for Hard {
+    ghost HARD = { true };
+
+    const HARD: bool = true;
+}
+
+/// A plan doesn't fail.
+pub struct Soft;
+
+impl Strength for Soft {
+    ghost HARD = { false };
+
+    const HARD: bool = false;
+}

@@ -1,0 +1,137 @@
+// Bounds by what all brokers use of a resource.
+ghost use Rattle.broker_goals.specs.Made.{IsThreshold};
+ghost use Rattle.goal_terms.specs.Bands.{whole_cap, low_of, near_use, below_use};
+ghost use Rattle.goal_terms.specs.Goals.{ratio_at};
+ghost use Rattle.goal_terms.specs.Limits.{SmallCap, SmallBounds};
+ghost use Rattle.goal_terms.specs.PerBroker.{unit_brokers};
+ghost use Rattle.plan_terms.specs.Faults.{IsCase};
+ghost use Rattle.std.specs.List.{sum_by};
+ghost use Rattle.std.specs.Prelude.{◌≡◌, ◌-◌, ◌*◌, ◌<◌, ◌≤◌, ◌^◌, slice_index};
+
+use crate::band::{Band, NewBand};
+use crate::names::Resource;
+use crate::shares::low_num;
+use load_model::{Broker, Case, Options, Ratio};
+use std::marker::PhantomData;
+
+// The threshold of a resource, for the balance of its use.
+fn balance_at(options: &Options, place: usize) -> Ratio
+    requires { place < 4 }
+    ensures { result ≡ ratio_at options.now.balance place }
+{
+    options.balance[place]
+}
+
+// The capacities of the brokers that aren't lost, added up.
+fn whole_cap_of(case: &Case, place: usize) -> u64
+    requires { place < 4 }
+    ensures { result ≡ whole_cap place case.now }
+{
+    let mut whole = 0u64;
+    for broker in case.brokers() {
+        if !broker.state.is_dead() {
+            whole += broker.cap[place];
+        }
+    }
+    whole
+}
+
+// A load, times the capacities of all brokers and a denominator.
+fn scaled(case: &Case, amount: u128, whole: u64, ratio: Ratio, place: usize) -> u128
+    requires amount { amount < 2 ^ 49 }
+    requires whole { whole ≡ whole_cap place case.now }
+    ensures { result ≡ amount * (whole * ratio.den) }
+{
+    let _brokers = case.brokers();
+    amount * (u128::from(whole) * u128::from(ratio.den()))
+}
+
+// Part of what all brokers carry, times a capacity.
+fn part_of(num: u32, all: u128, cap: u64) -> u128
+    requires num { num ≤ 9999999 }
+    requires all { all < 2 ^ 49 }
+    requires cap { cap < 1099511627776 }
+    ensures { result ≡ num * all * cap }
+{
+    u128::from(num) * all * u128::from(cap)
+}
+
+/// A use of a resource near that of all brokers together.
+#[derive(Drop)]
+pub struct NearUse<R> {
+    ratio: Ratio,
+    whole: u64,
+    resource: PhantomData<R>,
+}
+
+impl<R: Resource> Band for NearUse<R> {
+    ghost use Rattle.goal_terms.proofs.BandLemmas.{near_use-small};
+    ghost use Rattle.goal_terms.proofs.CaseLemmas.{Limits-case};
+
+    ghost bounds = { λ _ c. near_use (ratio_at c.options.balance R.resource) R.resource (whole_cap R.resource c) };
+
+    ghost made_for = { λ b c. IsThreshold b.ratio (ratio_at c.options.balance R.resource) × (b.whole ≡ whole_cap R.resource c) };
+
+    fn above(&self, case: &Case, all: u128, amount: u128, broker: &Broker) -> u128 {
+        let place = R::place();
+        let most = part_of(self.ratio.num(), all, broker.cap[place]);
+        scaled(case, amount, self.whole, self.ratio, place).saturating_sub(most)
+    }
+
+    fn below(&self, case: &Case, all: u128, amount: u128, broker: &Broker) -> u128 {
+        let place = R::place();
+        let least = part_of(low_num(self.ratio), all, broker.cap[place]);
+        least.saturating_sub(scaled(case, amount, self.whole, self.ratio, place))
+    }
+
+    ghost small_bounds = { λ _ c made is_case. near_use-small (ratio_at c.options.balance R.resource) R.resource c made.0.small (Limits-case c is_case) };
+}
+
+impl<R: Resource> NewBand for NearUse<R> {
+    fn new(case: &Case) -> Self {
+        NearUse {
+            ratio: balance_at(case.options(), R::place()),
+            whole: whole_cap_of(case, R::place()),
+            resource: PhantomData,
+        }
+    }
+}
+
+/// A use of a resource not far above that of all brokers together.
+#[derive(Drop)]
+pub struct BelowUse<R> {
+    ratio: Ratio,
+    whole: u64,
+    resource: PhantomData<R>,
+}
+
+impl<R: Resource> Band for BelowUse<R> {
+    ghost use Rattle.goal_terms.proofs.BandLemmas.{below_use-small};
+    ghost use Rattle.goal_terms.proofs.CaseLemmas.{Limits-case};
+
+    ghost bounds = { λ _ c. below_use (ratio_at c.options.balance R.resource) R.resource (whole_cap R.resource c) };
+
+    ghost made_for = { λ b c. IsThreshold b.ratio (ratio_at c.options.balance R.resource) × (b.whole ≡ whole_cap R.resource c) };
+
+    fn above(&self, case: &Case, all: u128, amount: u128, broker: &Broker) -> u128 {
+        let place = R::place();
+        let most = part_of(self.ratio.num(), all, broker.cap[place]);
+        scaled(case, amount, self.whole, self.ratio, place).saturating_sub(most)
+    }
+
+    fn below(&self, _case: &Case, _all: u128, _amount: u128, _broker: &Broker) -> u128 {
+        0
+    }
+
+    ghost small_bounds = { λ _ c made is_case. below_use-small (ratio_at c.options.balance R.resource) R.resource c made.0.small (Limits-case c is_case) };
+}
+
+impl<R: Resource> NewBand for BelowUse<R> {
+    fn new(case: &Case) -> Self {
+        BelowUse {
+            ratio: balance_at(case.options(), R::place()),
+            whole: whole_cap_of(case, R::place()),
+            resource: PhantomData,
+        }
+    }
+}

@@ -1,0 +1,270 @@
+// The goal that each topic's replicas are spread evenly.
+ghost use Rattle.goal_terms.specs.Bands.{units_of, even};
+ghost use Rattle.goal_terms.specs.Heats.{heat_at_id};
+ghost use Rattle.goal_terms.specs.Limits.{SmallLoads, SmallWeights};
+ghost use Rattle.goal_terms.specs.PerBroker.{id_at, unit_brokers, broker_excess, per_broker};
+ghost use Rattle.goal_terms.specs.PerTopic.{topic_excesses, per_topic, first_topic, second_topic, topic_heat};
+ghost use Rattle.goal_terms.specs.Quantity.{weight_of, quantity, topic_weights};
+ghost use Rattle.goal_terms.specs.Sides.{excess_with};
+ghost use Rattle.load_model.specs.Places.{topic_at};
+ghost use Rattle.plan_terms.specs.Belongs.{IsBookOf};
+ghost use Rattle.plan_terms.specs.Cluster.{Cluster};
+ghost use Rattle.plan_terms.specs.Faults.{topics};
+ghost use Rattle.plan_terms.specs.Fits.{fits};
+ghost use Rattle.plan_terms.specs.Goal.{Accepts, Lessens};
+ghost use Rattle.std.specs.List.{list_any};
+ghost use Rattle.std.specs.Prelude.{◌≡◌, ◌+◌, ◌*◌, ◌<◌, ◌≤◌, ◌^◌, ◌↔◌, ◌++◌, ◌∷◌, [], true, false, None, IfOk, IsTrue, OnOk, ℕ, bytes_eq, get_or, length, map, nat_lt, if◌then◌else◌};
+
+use broker_goals::{
+    Amount, Balance, Band, Even, NewBand, amount_at, excess_at_place, sides_of, total_of,
+    unit_count, unit_excess, unit_place,
+};
+use load_model::{Case, LoadBook, Memory, Options, Part, Ratio, Topic};
+use move_actions::{Goal, Heat};
+use plan_terms::Action;
+use std::alloc::Global;
+
+/// The threshold for the replicas of a topic.
+pub struct TopicBalance;
+
+impl Balance for TopicBalance {
+    ghost threshold = { λ o. o.topic_balance };
+
+    fn ratio(options: &Options) -> Ratio {
+        options.topic_balance
+    }
+}
+
+/// How many replicas of one topic a broker holds.
+#[derive(Clone, Copy)]
+pub struct TopicReplicas<'t> {
+    // Its place among the topics.
+    place: usize,
+    name: &'t Topic,
+}
+
+impl<'t> Amount for TopicReplicas<'t> {
+    ghost use Rattle.goal_terms.proofs.BoundLemmas.{topic-small};
+
+    ghost weights = { λ q. topic_weights q.name.now };
+
+    ghost made_for = { λ q c. (q.place < length (topics c.parts)) × (topic_at c.parts q.place ≡ q.name.now) };
+
+    fn amount(&self, _case: &Case, book: &LoadBook, broker: usize) -> u128 {
+        u128::from(book.topic_count(self.place, broker))
+    }
+
+    fn weight(&self, part: &Part, _leads: bool) -> u64 {
+        u64::from(part.topic.as_str() == self.name.as_str())
+    }
+
+    ghost small_weights = { λ q p _. topic-small q.name.now p };
+}
+
+/// The goal that each topic's replicas are spread evenly: Cruise Control's TopicReplicaDistributionGoal. Its units are the
+/// brokers that aren't lost, for each topic in the order of its first partition.
+#[derive(Drop)]
+pub struct TopicReplicaDistributionGoal {
+    band: Even<TopicBalance>,
+    topics: Vec<Topic>,
+}
+
+fn has_topic(found: &[Topic], topic: &Topic) -> bool
+    ensures { result ≡ list_any (bytes_eq topic.now) found.now }
+{
+    for known in found {
+        if topic.as_str() == known.as_str() {
+            return true;
+        }
+    }
+    false
+}
+
+// Adds a topic that isn't there yet.
+fn push_new(alloc: Global, found: &mut Vec<Topic>, topic: &Topic) -> Result<(), Memory>
+    ensures { OnOk result (found.new.items ≡ if list_any (bytes_eq topic.now) found.old.items then found.old.items else found.old.items ++ topic.now ∷ []) }
+{
+    if !has_topic(found.as_slice(), topic) {
+        found.push(topic.copy(alloc)?)?;
+    }
+    Ok(())
+}
+
+// The topics, in the order of their first partitions.
+fn topics_of(alloc: Global, parts: &[Part]) -> Result<Vec<Topic>, Memory>
+    ensures { IfOk result (λ v. v.items ≡ topics parts.now) }
+{
+    let mut found = Vec::new(alloc);
+    for part in parts {
+        push_new(alloc, &mut found, &part.topic)?;
+    }
+    Ok(found)
+}
+
+impl TopicReplicaDistributionGoal {
+    /// The goal for the case.
+    pub fn new(alloc: Global, case: &Case) -> Result<Self, Memory>
+        ensures { IfOk result (λ goal. ⟦<Even<TopicBalance> as Band>⟧.made_for goal.band case.now × (goal.topics.items ≡ topics case.now.parts)) }
+    {
+        Ok(TopicReplicaDistributionGoal {
+            band: Even::new(case),
+            topics: topics_of(alloc, case.parts())?,
+        })
+    }
+
+    // The replicas of the topic at a place.
+    fn replicas(&self, place: usize) -> TopicReplicas<'_>
+        requires { place < length self.now.topics.items }
+        ensures place { result.place ≡ place }
+        ensures name { result.name.now ≡ get_or self.now.topics.items place [] }
+    {
+        TopicReplicas {
+            place,
+            name: &self.topics[place],
+        }
+    }
+}
+
+// Whether the goal for one topic accepts an action.
+fn topic_accepts(
+    kind: &TopicReplicas<'_>,
+    band: &Even<TopicBalance>,
+    case: &Case,
+    book: &LoadBook,
+    action: Action,
+) -> bool
+    requires amount { ⟦<TopicReplicas<'static> as Amount>⟧.made_for kind.now case.now }
+    requires band { ⟦<Even<TopicBalance> as Band>⟧.made_for band.now case.now }
+    requires belongs { IsBookOf case.now book.now }
+    requires applies { IsTrue (fits book.now.lists action) }
+    ensures { IsTrue result ↔ Accepts (per_broker true (topic_weights kind.now.name.now) (even case.now.options.topic_balance (units_of case.now)) case.now) book.now.lists action }
+{
+    let _brokers = case.brokers();
+    let sides = sides_of(kind, band, case, book, action);
+    sides.giver_after <= sides.giver && sides.taker_after <= sides.taker
+}
+
+// The place of the topic of the first partition that an action touches.
+fn first_of(case: &Case, book: &LoadBook, action: Action) -> usize
+    requires belongs { IsBookOf case.now book.now }
+    requires applies { IsTrue (fits book.now.lists action) }
+    ensures within { result < length (topics case.now.parts) }
+    ensures named { topic_at case.now.parts result ≡ first_topic case.now.parts action }
+{
+    let _lists = book.lists();
+    match action {
+        Action::Move { part, .. } => case.topic(part as usize),
+        Action::Lead { part, .. } => case.topic(part as usize),
+        Action::Swap { part, .. } => case.topic(part as usize),
+    }
+}
+
+// The place of the topic of the second of them, or of the only one.
+fn second_of(case: &Case, book: &LoadBook, action: Action) -> usize
+    requires belongs { IsBookOf case.now book.now }
+    requires applies { IsTrue (fits book.now.lists action) }
+    ensures within { result < length (topics case.now.parts) }
+    ensures named { topic_at case.now.parts result ≡ second_topic case.now.parts action }
+    ensures only { (t : ℕ) → t < length (topics case.now.parts) → topic_at case.now.parts t ≡ second_topic case.now.parts action → t ≡ result }
+{
+    let _lists = book.lists();
+    match action {
+        Action::Move { part, .. } => case.topic(part as usize),
+        Action::Lead { part, .. } => case.topic(part as usize),
+        Action::Swap { other, .. } => case.topic(other as usize),
+    }
+}
+
+// Whether the broker at a place has an excess for one topic.
+fn is_uneven(
+    kind: &TopicReplicas<'_>,
+    band: &Even<TopicBalance>,
+    case: &Case,
+    book: &LoadBook,
+    broker: usize,
+) -> bool
+    requires amount { ⟦<TopicReplicas<'static> as Amount>⟧.made_for kind.now case.now }
+    requires band { ⟦<Even<TopicBalance> as Band>⟧.made_for band.now case.now }
+    requires belongs { IsBookOf case.now book.now }
+    requires broker { broker < length case.now.brokers }
+    ensures { result ≡ nat_lt 0 (excess_with (topic_weights kind.now.name.now) (even case.now.options.topic_balance (units_of case.now)) case.now book.now.lists (id_at case.now.brokers broker) (quantity (topic_weights kind.now.name.now) case.now.parts (id_at case.now.brokers broker) book.now.lists)) }
+{
+    let all = total_of(kind, case, book);
+    let amount = amount_at(kind, case, book, broker);
+    unit_excess(band, case, all, amount, broker) > 0
+}
+
+impl Goal for TopicReplicaDistributionGoal {
+    ghost use Rattle.goal_terms.proofs.CaseLemmas.{Limits-case};
+    ghost use Rattle.goal_terms.proofs.TopicGoalLemmas.{topic-fits_120_bits, topic-cold_pairs};
+
+    ghost meaning = { λ _ c. per_topic false (even c.options.topic_balance (units_of c)) c };
+
+    ghost made_for = { λ g c. ⟦<Even<TopicBalance> as Band>⟧.made_for g.band c × (g.topics.items ≡ topics c.parts) };
+
+    ghost heat_at = { λ _ c lists k. topic_heat (topics c.parts) (even c.options.topic_balance (units_of c)) c lists k };
+
+    ghost weighs = { λ _. None };
+
+    fn is_hard(&self, _case: &Case) -> bool {
+        false
+    }
+
+    fn units(&self, case: &Case) -> usize {
+        let brokers = case.brokers();
+        case.topics() * unit_count(brokers)
+    }
+
+    fn excess(&self, case: &Case, book: &LoadBook, unit: usize) -> u128 {
+        let count = unit_count(case.brokers());
+        let mut left = unit;
+        for place in 0..self.topics.len() {
+            if left < count {
+                let broker = unit_place(case.brokers(), left);
+                return excess_at_place(&self.replicas(place), &self.band, case, book, broker);
+            }
+            left -= count;
+        }
+        unreachable!()
+    }
+
+    fn accepts(&self, case: &Case, book: &LoadBook, action: Action) -> bool {
+        let _brokers = case.brokers();
+        let first = self.replicas(first_of(case, book, action));
+        let second = self.replicas(second_of(case, book, action));
+        topic_accepts(&first, &self.band, case, book, action)
+            && topic_accepts(&second, &self.band, case, book, action)
+    }
+
+    fn lessens(&self, case: &Case, book: &LoadBook, action: Action) -> bool {
+        let _brokers = case.brokers();
+        let first = first_of(case, book, action);
+        let second = second_of(case, book, action);
+        let one = sides_of(&self.replicas(first), &self.band, case, book, action);
+        if first == second {
+            return one.giver_after + one.taker_after < one.giver + one.taker;
+        }
+        let two = sides_of(&self.replicas(second), &self.band, case, book, action);
+        one.giver_after + one.taker_after + two.giver_after + two.taker_after
+            < one.giver + one.taker + two.giver + two.taker
+    }
+
+    fn heat(&self, case: &Case, book: &LoadBook, broker: usize) -> Heat {
+        for place in 0..self.topics.len() {
+            if is_uneven(&self.replicas(place), &self.band, case, book, broker) {
+                return Heat::Other;
+            }
+        }
+        Heat::Cold
+    }
+
+    fn weight(&self, _case: &Case, _part: u32, _leads: bool) -> Option<u64> {
+        None
+    }
+
+    ghost small = { λ _ c lists made is_case fits. topic-fits_120_bits false c.options.topic_balance c lists made.0.0.small (Limits-case c is_case) fits };
+
+    ghost cold_pairs = { λ _ c lists _ is_case fits. topic-cold_pairs false (even c.options.topic_balance (units_of c)) c lists (Limits-case c is_case) fits };
+
+    ghost idle_trades = { λ _ _ _ _ _ _. tt };
+}
