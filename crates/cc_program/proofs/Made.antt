@@ -1,10 +1,8 @@
 -- What carrying a plan out makes.
-use Rattle.std.proofs.Common.{◌≡◌, ◌∙◌, List, refl, ap, sym}
+use Rattle.std.proofs.Common.{List, refl}
 use Rattle.std.specs.Prelude.{Result, Ok, Err, IfOk}
-use Rattle.plan_terms.specs.Cluster.{Cluster}
 use Rattle.plan_terms.specs.Trace.{Planned, after_turns}
 use Rattle.plan_terms.specs.declared.actions.Action.{Action}
-use Rattle.proposal_set.specs.Text.{assignment_text}
 use Rattle.cc_program.specs.Goals.{goals_of}
 use Rattle.cc_program.specs.Input.{ClusterLists}
 use Rattle.cc_program.specs.Runs.{IsApplied, IsMade}

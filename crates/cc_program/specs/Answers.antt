@@ -3,7 +3,6 @@ use Rattle.std.specs.Prelude.{◌≡◌, ℕ, List, [], ◌∷◌, ◌++◌, get
 use Rattle.serde_json.specs.Data.{string, object, member, no_members}
 use Rattle.serde_json.specs.Written.{compact_text}
 use Rattle.plan_terms.specs.Change.{proposals}
-use Rattle.plan_terms.specs.Cluster.{Cluster}
 use Rattle.plan_terms.specs.Trace.{Planned, Failed, after_turns}
 use Rattle.plan_terms.specs.declared.actions.Action.{Action}
 use Rattle.proposal_set.specs.Text.{reassignment_text, assignment_text}

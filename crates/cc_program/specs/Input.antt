@@ -1,5 +1,5 @@
 -- What the program plans for: a cluster with the loads of its samples, its lists and its caps.
-use Rattle.std.specs.Prelude.{ℕ, suc, Bool, true, false, List, [], ◌∷◌, ◌++◌, length, map, fold, Option, Some, None, is_none, if◌then◌else◌, Ok, Err, codes, decimal}
+use Rattle.std.specs.Prelude.{ℕ, suc, List, [], ◌∷◌, ◌++◌, fold, Option, Some, None, is_none, if◌then◌else◌, Ok}
 use Rattle.plan_terms.specs.Cluster.{Cluster, Lists}
 use Rattle.plan_terms.specs.declared.cluster.Loads.{Loads}
 use Rattle.plan_terms.specs.declared.cluster.Part.{Part}

@@ -1,8 +1,8 @@
 use crate::input::{Loaded, read_input};
 use crate::quiet::run_quiet;
 use cc_base::{Failing, FileFault, Files, MemoryFile, MemoryFiles, MemorySink, MemorySource};
-use load_model::Part;
-use move_actions::{Action, all_actions};
+use load_model::{LoadBook, Part};
+use move_actions::{Action, all_actions, legal};
 use serde_json::Value;
 use std::alloc::{AllocError, Global};
 use std::fmt::Write;
@@ -393,6 +393,25 @@ fn answers_words_and_faults(rt: HostRuntime) -> Result<(), Fail> {
 
 fn three_brokers(alloc: Global) -> Result<Loaded, Fail> {
     Ok(read_input(alloc, THREE_BROKERS.as_bytes())?)
+}
+
+// Brokers 0 that is lost, 1 that is alive and 2 that is being added, with one partition each.
+const STATES: &str =
+    "{\"version\":1,\"brokers\":[{\"id\":0,\"state\":\"DEAD\"},{\"id\":1},{\"id\":2,\"state\":\"NEW\"}],\"partitions\":[{\"topic\":\"t\",\"partition\":0,\"replicas\":[0]},{\"topic\":\"t\",\"partition\":1,\"replicas\":[1]},{\"topic\":\"t\",\"partition\":2,\"replicas\":[2]}]}";
+
+#[test]
+fn moves_by_the_states_of_brokers(rt: HostRuntime) -> Result<(), Fail> {
+    let loaded = read_input(rt.alloc(), STATES.as_bytes())?;
+    let book = LoadBook::new(rt.alloc(), &loaded.case, &loaded.lists)?;
+    for (part, to, expected) in [(0, 1, true), (0, 2, true), (1, 2, true), (2, 1, false)] {
+        let action = Action::Move {
+            part,
+            from: part,
+            to,
+        };
+        assert_eq!(rt; legal(&loaded.case, &book, action), expected);
+    }
+    Ok(())
 }
 
 #[test]

@@ -1,4 +1,4 @@
-use Rattle.std.proofs.Common.{◌≡◌, refl}
+use Rattle.std.proofs.Common.{refl}
 use Rattle.cc_program.proofs.Evacuated.{evacuated}
 use Rattle.cc_program.proofs.Made.{made}
 use Rattle.cc_program.specs.Views.{cluster_lists}

@@ -1,4 +1,3 @@
-use Rattle.std.proofs.Common.{◌≡◌}
 use Rattle.metric_windows.specs.Samples.{load_of}
 use Rattle.cc_program.specs.Input.{accepted, loaded_cluster, window_rules}
 use Rattle.cc_program.proofs.LoadLemmas.{Belongs-loaded}

@@ -1,4 +1,4 @@
-use Rattle.std.proofs.Common.{◌≡◌, ◌∙◌, ◌≤◌, ap, sym, arith, length}
+use Rattle.std.proofs.Common.{◌≡◌, ◌∙◌, ap, sym, arith, length}
 use Rattle.plan_terms.specs.Cluster.{Cluster}
 use Rattle.metric_windows.specs.Samples.{load_of}
 use Rattle.cc_program.specs.Input.{accepted, loaded_cluster, window_rules}

@@ -1,4 +1,4 @@
-use Rattle.std.proofs.Common.{◌≡◌, inr, sym}
+use Rattle.std.proofs.Common.{inr, sym}
 use Rattle.cc_program.specs.Views.{asked, cluster_lists}
 use Rattle.cc_program.proofs.quiet.run.Goals as goal
 

@@ -1,4 +1,4 @@
-use Rattle.std.proofs.Common.{◌≡◌, ◌∙◌, sym}
+use Rattle.std.proofs.Common.{◌∙◌, sym}
 use Rattle.cc_program.proofs.Ends.{failure_of}
 use Rattle.cc_program.proofs.quiet.run_quiet.Goals as goal
 
