@@ -1,5 +1,5 @@
 -- Faults, passed outwards.
-use Rattle.std.proofs.Common.{◌≡◌, ℕ, List, ◌++◌, Option, Some, None, IfSome, Ok, Err, ap, sym, ◌∙◌, refl}
+use Rattle.std.proofs.Common.{◌≡◌, ℕ, List, ◌++◌, Option, Some, None, Ok, Err, ap, sym, ◌∙◌, refl}
 use Rattle.cluster_json.specs.Faults.{Fault, Read, deeper, under, ◌>>=◌}
 use Rattle.cluster_json.specs.Reading.{IsDeeper, Fails}
 

@@ -1,5 +1,5 @@
 -- What a file's members give its cluster, and what its bytes give it.
-use Rattle.std.proofs.Common.{◌≡◌, ◌∙◌, ℕ, Bool, true, false, cond, List, map, slice_index, Some, None, Err, IsUtf8, refl, ap, sym}
+use Rattle.std.proofs.Common.{◌≡◌, ℕ, Bool, true, false, cond, List, map, slice_index, Some, None, Err, IsUtf8, refl}
 use Rattle.std.specs.List.{All}
 use Rattle.std.specs.Str.{is_utf8}
 use Rattle.std.proofs.lemmas.List.Elements.{All-map, All-weaker}

@@ -1,9 +1,9 @@
 -- The brokers of a file.
-use Rattle.std.specs.Prelude.{ℕ, ◌^◌, List, [], ◌∷◌, bytes_eq, if◌then◌else◌, Option, Some, None, option_map, Ok, Err, codes}
+use Rattle.std.specs.Prelude.{ℕ, ◌^◌, List, [], bytes_eq, if◌then◌else◌, Option, Some, None, Ok, Err, codes}
 use Rattle.serde_json.specs.Data.{Data}
 use Rattle.plan_terms.specs.declared.cluster.BrokerState.{BrokerState}
 use Rattle.plan_terms.specs.declared.cluster.BrokerState.TheVariants.{Alive, Dead, New, Demoted}
-use Rattle.cluster_json.specs.Faults.{Read, wrong_shape, under, ◌>>=◌}
+use Rattle.cluster_json.specs.Faults.{Read, wrong_shape, ◌>>=◌}
 use Rattle.cluster_json.specs.Shapes.{inside, object_at, number_at, text_at, required, optional}
 use Rattle.cluster_json.specs.declared.brokers.FileBroker.{FileBroker}
 

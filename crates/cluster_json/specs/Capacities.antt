@@ -1,5 +1,5 @@
 -- The capacities of brokers, in the form of Cruise Control's file of broker capacities.
-use Rattle.std.specs.Prelude.{ℕ, suc, ◌^◌, ◌==◌, Bool, true, false, ◌&&◌, nat_lt, nat_le, List, [], ◌∷◌, ◌++◌, length, bytes_eq, if◌then◌else◌, Option, Some, None, nat_eq, is_some, Ok, Err, codes}
+use Rattle.std.specs.Prelude.{ℕ, suc, ◌^◌, ◌==◌, Bool, ◌&&◌, nat_lt, nat_le, List, [], ◌∷◌, ◌++◌, length, bytes_eq, if◌then◌else◌, Option, Some, None, nat_eq, is_some, Ok, Err, codes}
 use Rattle.std.specs.List.{list_all, before_first, after_first}
 use Rattle.std.specs.Map.{lookup}
 use Rattle.std.specs.Option.{option_eq}

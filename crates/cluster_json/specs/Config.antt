@@ -1,10 +1,10 @@
 -- The configuration of a file.
-use Rattle.std.specs.Prelude.{ℕ, true, false, List, [], ◌∷◌, if◌then◌else◌, Option, Some, None, Ok, Err, codes}
+use Rattle.std.specs.Prelude.{ℕ, false, List, [], ◌∷◌, if◌then◌else◌, Option, Some, None, Ok, Err, codes}
 use Rattle.serde_json.specs.Data.{Data, Members, no_members, member}
 use Rattle.serde_json.specs.Find.{as_object}
 use Rattle.plan_terms.specs.Fraction.{Fraction}
 use Rattle.plan_terms.specs.declared.cluster.Options.{Options}
-use Rattle.cluster_json.specs.Faults.{Read, wrong_shape, bad_config, under, ◌>>=◌}
+use Rattle.cluster_json.specs.Faults.{Read, wrong_shape, bad_config, ◌>>=◌}
 use Rattle.cluster_json.specs.Settings.{is_setting, ratio_setting, whole_setting}
 use Rattle.cluster_json.specs.declared.settings.RatioForm.TheVariants.{Any, FromOne, ToOne}
 use Rattle.cluster_json.specs.declared.config.Caps3.{Caps3}

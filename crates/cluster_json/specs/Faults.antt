@@ -1,5 +1,5 @@
 -- What is wrong with a cluster file, and where.
-use Rattle.std.specs.Prelude.{ℕ, List, [], ◌∷◌, ◌++◌, Result, Ok, Err, decimal}
+use Rattle.std.specs.Prelude.{ℕ, List, ◌∷◌, ◌++◌, Result, Ok, Err, decimal}
 use Rattle.plan_terms.specs.declared.faults.CaseFault.{CaseFault}
 
 -- the first fault of a file; a path is a JSON pointer

@@ -1,5 +1,5 @@
 -- What the bytes of a cluster file mean, or their first fault.
-use Rattle.std.specs.Prelude.{◌≡◌, ℕ, Bool, ◌==◌, List, [], ◌∷◌, map, if◌then◌else◌, Option, Some, None, Ok, Err, codes}
+use Rattle.std.specs.Prelude.{ℕ, Bool, ◌==◌, List, [], map, if◌then◌else◌, Option, Some, None, Ok, Err, codes}
 use Rattle.std.specs.Str.{is_utf8}
 use Rattle.serde_json.specs.Data.{Data, Num}
 use Rattle.serde_json.specs.Find.{as_number, as_u64}
@@ -12,7 +12,7 @@ use Rattle.plan_terms.specs.declared.faults.CaseFault.{CaseFault}
 use Rattle.cluster_json.specs.Brokers.{broker_at}
 use Rattle.cluster_json.specs.Capacities.{entries_at, all_equipped}
 use Rattle.cluster_json.specs.Config.{config_at}
-use Rattle.cluster_json.specs.Faults.{Read, not_json, wrong_shape, unsupported_version, no_case, under, ◌>>=◌}
+use Rattle.cluster_json.specs.Faults.{Read, not_json, wrong_shape, unsupported_version, no_case, ◌>>=◌}
 use Rattle.cluster_json.specs.Partitions.{part_at}
 use Rattle.cluster_json.specs.Samples.{samples_at}
 use Rattle.cluster_json.specs.Shapes.{inside, object_at, all_at, required, optional}

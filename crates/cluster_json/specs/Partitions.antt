@@ -1,9 +1,8 @@
 -- The partitions of a file.
-use Rattle.std.specs.Prelude.{ℕ, suc, ◌^◌, ◌==◌, Bool, false, not, ◌&&◌, ◌||◌, nat_le, List, [], ◌∷◌, length, map, bytes_eq, if◌then◌else◌, Option, Some, None, unwrap_or, is_some, Ok, Err, codes}
+use Rattle.std.specs.Prelude.{ℕ, suc, ◌^◌, ◌==◌, Bool, false, not, ◌&&◌, ◌||◌, nat_le, List, [], length, bytes_eq, if◌then◌else◌, Option, Some, None, unwrap_or, is_some, Ok, Err, codes}
 use Rattle.std.specs.List.{list_all}
 use Rattle.serde_json.specs.Data.{Data, Items, no_items, item}
 use Rattle.plan_terms.specs.declared.cluster.Loads.{Loads}
-use Rattle.plan_terms.specs.declared.cluster.Part.{Part}
 use Rattle.cluster_json.specs.Faults.{Read, bad_topic, index_step, under, ◌>>=◌}
 use Rattle.cluster_json.specs.Shapes.{inside, object_at, number_at, text_at, note_at, list_at, all_at, required, optional}
 use Rattle.cluster_json.specs.Loads.{loads_at, no_loads}

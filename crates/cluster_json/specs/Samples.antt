@@ -1,9 +1,8 @@
 -- The samples of a file.
 use Rattle.std.specs.Prelude.{ℕ, suc, ◌^◌, ◌==◌, Bool, ◌&&◌, List, [], ◌∷◌, bytes_eq, if◌then◌else◌, Option, Some, None, Ok, Err, codes}
 use Rattle.serde_json.specs.Data.{Data}
-use Rattle.plan_terms.specs.declared.cluster.Loads.{Loads}
 use Rattle.plan_terms.specs.declared.cluster.Part.{Part}
-use Rattle.cluster_json.specs.Faults.{Read, wrong_shape, under, ◌>>=◌}
+use Rattle.cluster_json.specs.Faults.{Read, wrong_shape, ◌>>=◌}
 use Rattle.cluster_json.specs.Shapes.{inside, object_at, number_at, all_at, required}
 use Rattle.cluster_json.specs.Loads.{loads_at}
 use Rattle.cluster_json.specs.Partitions.{topic_at, id_at}

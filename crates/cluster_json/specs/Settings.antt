@@ -1,8 +1,8 @@
 -- The settings of a file, by Cruise Control's names.
-use Rattle.std.specs.Prelude.{ℕ, ◌==◌, Bool, true, false, not, ◌&&◌, ◌||◌, nat_le, nat_lt, List, [], ◌∷◌, length, bytes_eq, if◌then◌else◌, Option, Some, None, is_some, unwrap_or, codes, decimal, slice_index}
+use Rattle.std.specs.Prelude.{ℕ, ◌==◌, Bool, true, false, ◌&&◌, nat_le, nat_lt, List, [], ◌∷◌, length, bytes_eq, if◌then◌else◌, Option, Some, None, is_some, unwrap_or, codes, decimal, slice_index}
 use Rattle.std.specs.List.{list_any}
 use Rattle.std.specs.Option.{option_and_then}
-use Rattle.serde_json.specs.Data.{Data, Num, unsigned, negative, float, null, boolean, number, string, array, object}
+use Rattle.serde_json.specs.Data.{Data, unsigned, negative, float, null, boolean, number, string, array, object}
 use Rattle.serde_json.specs.Find.{get}
 use Rattle.plan_terms.specs.Digits.{number_of}
 use Rattle.plan_terms.specs.Fraction.{Fraction, ratio_of}

@@ -1,5 +1,5 @@
 -- How a fault is told.
-use Rattle.std.specs.Prelude.{ℕ, List, [], ◌∷◌, ◌++◌, codes, decimal}
+use Rattle.std.specs.Prelude.{ℕ, List, ◌∷◌, ◌++◌, codes, decimal}
 use Rattle.plan_terms.specs.declared.faults.CaseFault.{CaseFault}
 use Rattle.plan_terms.specs.declared.faults.CaseFault.TheVariants as case
 use Rattle.plan_terms.specs.declared.faults.Limit.{Limit}

@@ -1,11 +1,7 @@
-use Rattle.std.proofs.Common.{◌≡◌, ◌∙◌, ap, sym, length, map, subst}
-use Rattle.std.specs.List.{All}
+use Rattle.std.proofs.Common.{◌≡◌, ◌∙◌, ap, sym, length}
 use Rattle.std.proofs.lemmas.List.{length-map}
 use Rattle.plan_terms.specs.Cluster.{Cluster}
-use Rattle.cluster_json.specs.Ranges.{IsSample}
-use Rattle.cluster_json.specs.Views.{sample_seen}
 use Rattle.cluster_json.specs.declared.partitions.FilePart.{FilePart}
-use Rattle.cluster_json.specs.declared.samples.Placed.{Placed}
 use Rattle.cluster_json.proofs.FileLemmas.{samples-map, silent-map}
 use Rattle.cluster_json.proofs.file.load.Goals as goal
 

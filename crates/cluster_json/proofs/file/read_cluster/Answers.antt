@@ -1,7 +1,5 @@
 use Rattle.std.proofs.lemmas.Bool.{both_ways}
 use Rattle.serde_json.specs.View.{view}
-use Rattle.cluster_json.specs.Reading.{Gives}
-use Rattle.cluster_json.specs.Views.{file_seen}
 use Rattle.cluster_json.proofs.FileLemmas.{meaning_of-read, meaning_of-refused}
 use Rattle.cluster_json.proofs.file.read_cluster.Goals as goal
 

@@ -1,6 +1,4 @@
 use Rattle.std.proofs.Common.{◌≡◌, map, take}
-use Rattle.std.specs.List.{All}
-use Rattle.cluster_json.specs.Ranges.{IsSample}
 use Rattle.cluster_json.specs.Views.{sample_seen}
 use Rattle.cluster_json.proofs.samples.narrowed.Given as goal
 
