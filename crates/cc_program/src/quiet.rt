@@ -179,8 +179,7 @@ pub fn conclude<O: Sink>(err: &mut O, end: &End) -> u8
     status(end)
 }
 
-/// Runs a command that waits for nobody, and answers the exit status: 0 where it is
-/// done, 2 for words that are no command,
+/// Runs a command that waits for nobody, and answers the exit status: 0 where it is done, 2 for words that are no command,
 /// 3 for a file that is refused, 4 for a hard goal that fails, 5 for a fault of the files, 7 for a fault of the output
 /// and 9 for want of memory. The answer goes to `out` once it is whole in memory, one line on any other end to `err`;
 /// what becomes of that line changes nothing.
