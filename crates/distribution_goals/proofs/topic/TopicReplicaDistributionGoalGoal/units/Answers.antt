@@ -5,4 +5,4 @@ use Rattle.distribution_goals.proofs.topic.TopicReplicaDistributionGoalGoal.unit
 
 pub overflow_mul-result : goal.overflow_mul-result
 overflow_mul-result c =
-    rw (c.topics.ensures, c.unit_count.ensures, c.brokers-brokers.ensures.value) (omega (arith, few-units c.args.case.now (Limits-case c.args.case.now c.brokers-brokers.ensures.case)))
+    rw (c.topics.ensures.value, c.unit_count.ensures, c.brokers-brokers.ensures.value) (omega (arith, few-units c.args.case.now (Limits-case c.args.case.now c.brokers-brokers.ensures.case)))
