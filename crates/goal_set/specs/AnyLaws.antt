@@ -3,7 +3,7 @@ use Rattle.std.proofs.Common.{◌<◌, ◌≤◌, ◌^◌, Bool, true, false, Li
 use Rattle.std.specs.Prelude.{IfSome}
 use Rattle.plan_terms.specs.Belongs.{Belongs}
 use Rattle.plan_terms.specs.Cluster.{Cluster, Lists}
-use Rattle.plan_terms.specs.Faults.{IsCase, topics}
+use Rattle.plan_terms.specs.Faults.{IsCase}
 use Rattle.plan_terms.specs.Goal.{measure, per_partition}
 use Rattle.plan_terms.specs.Racks.{rack_excess}
 use Rattle.plan_terms.specs.declared.cluster.Part.{Part}
@@ -24,7 +24,7 @@ use Rattle.goal_terms.proofs.PartitionGoals.{demoted_first-le, lost_members-le}
 use Rattle.goal_terms.proofs.PartitionHeat.{partition-cold_pairs}
 use Rattle.goal_terms.proofs.TopicGoalLemmas.{topic-fits_120_bits, topic-cold_pairs}
 use Rattle.goal_set.specs.Kinds.{meaning_of}
-use Rattle.goal_set.specs.AnyMeaning.{any_heat, any_made, any_meaning, any_weights, kind_of}
+use Rattle.goal_set.specs.AnyMeaning.{any_heat, any_made, any_meaning, any_weights}
 use Rattle.goal_set.specs.declared.any.AnyGoal.{AnyGoal}
 use Rattle.goal_set.specs.declared.any.AnyGoal.TheVariants as any
 use Rattle.goal_set.specs.declared.kinds.GoalKind.{GoalKind}

@@ -1,5 +1,5 @@
 -- The kinds of goals: their order, their names, and what each means.
-use Rattle.std.specs.Prelude.{ℕ, Bool, true, false, List, [], ◌∷◌, codes, map}
+use Rattle.std.specs.Prelude.{ℕ, Bool, true, false, List, codes, map}
 use Rattle.goal_terms.specs.Goals as goals
 use Rattle.goal_terms.specs.Partitions.{evacuation_goal, demotion_goal}
 use Rattle.plan_terms.specs.Cluster.{Cluster}
