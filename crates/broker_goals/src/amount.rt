@@ -42,6 +42,7 @@ pub trait NewAmount: Amount + Sized {
 }
 
 /// How many replicas a broker holds.
+#[derive(Drop)]
 pub struct Replicas;
 
 impl Amount for Replicas {
@@ -69,6 +70,7 @@ impl NewAmount for Replicas {
 }
 
 /// How many partitions a broker leads.
+#[derive(Drop)]
 pub struct Leaders;
 
 impl Amount for Leaders {
@@ -132,6 +134,7 @@ impl<R: Resource> NewAmount for Load<R> {
 }
 
 /// What a broker would send to clients if it led all partitions of which it is a member.
+#[derive(Drop)]
 pub struct PotentialOut;
 
 impl Amount for PotentialOut {
@@ -159,6 +162,7 @@ impl NewAmount for PotentialOut {
 }
 
 /// What a broker receives from clients as the leader of partitions.
+#[derive(Drop)]
 pub struct LeaderIn;
 
 impl Amount for LeaderIn {

@@ -20,6 +20,7 @@ fn limit_at(options: &Options, place: usize) -> Ratio
 }
 
 /// At most as many replicas as a broker may hold.
+#[derive(Drop)]
 pub struct AtMost {
     most: u32,
 }

@@ -1,0 +1,119 @@
+-- The laws of a goal of any kind.
+use Rattle.std.proofs.Common.{◌<◌, ◌≤◌, ◌^◌, Bool, true, false, List, length, get_or, ℕ}
+use Rattle.std.specs.Prelude.{IfSome}
+use Rattle.plan_terms.specs.Belongs.{Belongs}
+use Rattle.plan_terms.specs.Cluster.{Cluster, Lists}
+use Rattle.plan_terms.specs.Faults.{IsCase}
+use Rattle.plan_terms.specs.Goal.{measure, per_partition}
+use Rattle.plan_terms.specs.Racks.{rack_excess}
+use Rattle.plan_terms.specs.declared.cluster.Part.{Part}
+use Rattle.plan_terms.proofs.PartitionLemmas.{per_partition-fits_120_bits}
+use Rattle.plan_terms.proofs.RackLemmas.{rack_excess-le}
+use Rattle.goal_terms.specs.Bands.{units_of, whole_cap, at_most, within_capacity, even, near_use, below_use}
+use Rattle.goal_terms.specs.Goals.{ratio_at}
+use Rattle.goal_terms.specs.Limits.{SmallLoads, SmallWeights, SmallBounds}
+use Rattle.goal_terms.specs.Pairs.{ColdPairs, IdleTrades}
+use Rattle.goal_terms.specs.Partitions.{demoted_first, lost_members}
+use Rattle.goal_terms.specs.PerBroker.{Bounds, per_broker}
+use Rattle.goal_terms.specs.Quantity.{Weights, replica_weights, leader_weights, load_weights, potential_out_weights, leader_in_weights}
+use Rattle.goal_terms.proofs.BandLemmas.{at_most-small, within_capacity-small, even-small, near_use-small, below_use-small}
+use Rattle.goal_terms.proofs.BoundLemmas.{per_broker-fits_120_bits, replica-small, leader-small, load-small, potential_out-small, leader_in-small}
+use Rattle.goal_terms.proofs.CaseLemmas.{Limits-case}
+use Rattle.goal_terms.proofs.PairLemmas.{broker-cold_pairs, broker-idle_trades}
+use Rattle.goal_terms.proofs.PartitionGoals.{demoted_first-le, lost_members-le}
+use Rattle.goal_terms.proofs.PartitionHeat.{partition-cold_pairs}
+use Rattle.goal_terms.proofs.TopicGoalLemmas.{topic-fits_120_bits, topic-cold_pairs}
+use Rattle.goal_set.specs.Kinds.{meaning_of}
+use Rattle.goal_set.specs.AnyMeaning.{any_heat, any_made, any_meaning, any_weights}
+use Rattle.goal_set.specs.declared.any.AnyGoal.{AnyGoal}
+use Rattle.goal_set.specs.declared.any.AnyGoal.TheVariants as any
+use Rattle.goal_set.specs.declared.kinds.GoalKind.{GoalKind}
+use Rattle.goal_set.specs.declared.kinds.GoalKind.TheVariants as kind
+
+-- the loads and weights are small
+pub replicas : (p : Part) → SmallLoads p → SmallWeights replica_weights p
+replicas p _ = replica-small p
+
+pub leads : (p : Part) → SmallLoads p → SmallWeights leader_weights p
+leads p _ = leader-small p
+
+pub loads : (r : ℕ) (p : Part) → SmallLoads p → SmallWeights (load_weights r) p
+loads r p h = load-small r p h
+
+pub potential : (p : Part) → SmallLoads p → SmallWeights potential_out_weights p
+potential p h = potential_out-small p h
+
+pub inbound : (p : Part) → SmallLoads p → SmallWeights leader_in_weights p
+inbound p h = leader_in-small p h
+
+-- of a goal over brokers
+pub broker-small : (hard : Bool) (w : Weights) (b : Bounds) (c : Cluster) (lists : Lists) → ((p : Part) → SmallLoads p → SmallWeights w p) → SmallBounds b → IsCase c → Belongs c lists → measure (per_broker hard w b c) lists < 2 ^ 120
+broker-small hard w b c lists small bounds is_case fits =
+    let limits = Limits-case c is_case in
+    per_broker-fits_120_bits w c lists limits (λ k d l. small (get_or c.parts k d) (limits.loads k d l)) fits hard b bounds
+
+-- of a goal over partitions
+pub partition-small : (hard : Bool) (f : List ℕ → ℕ) (c : Cluster) (lists : Lists) → ((list : List ℕ) → f list ≤ length list) → IsCase c → Belongs c lists → measure (per_partition hard f c) lists < 2 ^ 120
+partition-small hard f c lists within is_case fits =
+    let limits = Limits-case c is_case in
+    per_partition-fits_120_bits hard f c lists fits limits.few_parts within
+
+-- the measure is small
+pub any-small : (g : AnyGoal) (c : Cluster) (lists : Lists) → any_made g c → IsCase c → Belongs c lists → measure (any_meaning g c) lists < 2 ^ 120
+any-small (any.Evacuation g) c lists made is_case fits = partition-small true (lost_members c) c lists (lost_members-le c) is_case fits
+any-small (any.RackAware g) c lists made is_case fits = partition-small true (rack_excess c) c lists (rack_excess-le c) is_case fits
+any-small (any.ReplicaCapacity g) c lists made is_case fits = broker-small true replica_weights (at_most c.options.max_replicas) c lists replicas (at_most-small c.options.max_replicas) is_case fits
+any-small (any.DiskCapacity g) c lists made is_case fits = broker-small true (load_weights 3) (within_capacity (ratio_at c.options.limit 3) 3) c lists (loads 3) (within_capacity-small (ratio_at c.options.limit 3) 3 made.1.small) is_case fits
+any-small (any.NetworkInboundCapacity g) c lists made is_case fits = broker-small true (load_weights 1) (within_capacity (ratio_at c.options.limit 1) 1) c lists (loads 1) (within_capacity-small (ratio_at c.options.limit 1) 1 made.1.small) is_case fits
+any-small (any.NetworkOutboundCapacity g) c lists made is_case fits = broker-small true (load_weights 2) (within_capacity (ratio_at c.options.limit 2) 2) c lists (loads 2) (within_capacity-small (ratio_at c.options.limit 2) 2 made.1.small) is_case fits
+any-small (any.CpuCapacity g) c lists made is_case fits = broker-small true (load_weights 0) (within_capacity (ratio_at c.options.limit 0) 0) c lists (loads 0) (within_capacity-small (ratio_at c.options.limit 0) 0 made.1.small) is_case fits
+any-small (any.Demotion g) c lists made is_case fits = partition-small false (demoted_first c) c lists (demoted_first-le c) is_case fits
+any-small (any.ReplicaDistribution g) c lists made is_case fits = broker-small false replica_weights (even c.options.replica_balance (units_of c)) c lists replicas (even-small c.options.replica_balance (units_of c) made.1.0.small) is_case fits
+any-small (any.PotentialNwOut g) c lists made is_case fits = broker-small false potential_out_weights (within_capacity (ratio_at c.options.limit 2) 2) c lists potential (within_capacity-small (ratio_at c.options.limit 2) 2 made.1.small) is_case fits
+any-small (any.DiskUsageDistribution g) c lists made is_case fits = broker-small false (load_weights 3) (near_use (ratio_at c.options.balance 3) 3 (whole_cap 3 c)) c lists (loads 3) (near_use-small (ratio_at c.options.balance 3) 3 c made.1.0.small (Limits-case c is_case)) is_case fits
+any-small (any.NetworkInboundUsageDistribution g) c lists made is_case fits = broker-small false (load_weights 1) (near_use (ratio_at c.options.balance 1) 1 (whole_cap 1 c)) c lists (loads 1) (near_use-small (ratio_at c.options.balance 1) 1 c made.1.0.small (Limits-case c is_case)) is_case fits
+any-small (any.NetworkOutboundUsageDistribution g) c lists made is_case fits = broker-small false (load_weights 2) (near_use (ratio_at c.options.balance 2) 2 (whole_cap 2 c)) c lists (loads 2) (near_use-small (ratio_at c.options.balance 2) 2 c made.1.0.small (Limits-case c is_case)) is_case fits
+any-small (any.CpuUsageDistribution g) c lists made is_case fits = broker-small false (load_weights 0) (near_use (ratio_at c.options.balance 0) 0 (whole_cap 0 c)) c lists (loads 0) (near_use-small (ratio_at c.options.balance 0) 0 c made.1.0.small (Limits-case c is_case)) is_case fits
+any-small (any.TopicReplicaDistribution g) c lists made is_case fits = topic-fits_120_bits false c.options.topic_balance c lists made.0.0.small (Limits-case c is_case) fits
+any-small (any.LeaderReplicaDistribution g) c lists made is_case fits = broker-small false leader_weights (even c.options.leader_balance (units_of c)) c lists leads (even-small c.options.leader_balance (units_of c) made.1.0.small) is_case fits
+any-small (any.LeaderBytesInDistribution g) c lists made is_case fits = broker-small false leader_in_weights (below_use (ratio_at c.options.balance 1) 1 (whole_cap 1 c)) c lists inbound (below_use-small (ratio_at c.options.balance 1) 1 c made.1.0.small (Limits-case c is_case)) is_case fits
+
+-- an action of two cold brokers does not lessen it
+pub kind-cold_pairs : (k : GoalKind) (c : Cluster) (lists : Lists) → IsCase c → Belongs c lists → ColdPairs (meaning_of k c) (any_heat k c lists) lists
+kind-cold_pairs kind.Evacuation c lists is_case fits = partition-cold_pairs (lost_members c) true c lists fits
+kind-cold_pairs kind.RackAware c lists is_case fits = partition-cold_pairs (rack_excess c) true c lists fits
+kind-cold_pairs kind.ReplicaCapacity c lists is_case fits = broker-cold_pairs true replica_weights (at_most c.options.max_replicas) c lists (Limits-case c is_case) fits
+kind-cold_pairs kind.DiskCapacity c lists is_case fits = broker-cold_pairs true (load_weights 3) (within_capacity (ratio_at c.options.limit 3) 3) c lists (Limits-case c is_case) fits
+kind-cold_pairs kind.NetworkInboundCapacity c lists is_case fits = broker-cold_pairs true (load_weights 1) (within_capacity (ratio_at c.options.limit 1) 1) c lists (Limits-case c is_case) fits
+kind-cold_pairs kind.NetworkOutboundCapacity c lists is_case fits = broker-cold_pairs true (load_weights 2) (within_capacity (ratio_at c.options.limit 2) 2) c lists (Limits-case c is_case) fits
+kind-cold_pairs kind.CpuCapacity c lists is_case fits = broker-cold_pairs true (load_weights 0) (within_capacity (ratio_at c.options.limit 0) 0) c lists (Limits-case c is_case) fits
+kind-cold_pairs kind.Demotion c lists is_case fits = partition-cold_pairs (demoted_first c) false c lists fits
+kind-cold_pairs kind.ReplicaDistribution c lists is_case fits = broker-cold_pairs false replica_weights (even c.options.replica_balance (units_of c)) c lists (Limits-case c is_case) fits
+kind-cold_pairs kind.PotentialNwOut c lists is_case fits = broker-cold_pairs false potential_out_weights (within_capacity (ratio_at c.options.limit 2) 2) c lists (Limits-case c is_case) fits
+kind-cold_pairs kind.DiskUsageDistribution c lists is_case fits = broker-cold_pairs false (load_weights 3) (near_use (ratio_at c.options.balance 3) 3 (whole_cap 3 c)) c lists (Limits-case c is_case) fits
+kind-cold_pairs kind.NetworkInboundUsageDistribution c lists is_case fits = broker-cold_pairs false (load_weights 1) (near_use (ratio_at c.options.balance 1) 1 (whole_cap 1 c)) c lists (Limits-case c is_case) fits
+kind-cold_pairs kind.NetworkOutboundUsageDistribution c lists is_case fits = broker-cold_pairs false (load_weights 2) (near_use (ratio_at c.options.balance 2) 2 (whole_cap 2 c)) c lists (Limits-case c is_case) fits
+kind-cold_pairs kind.CpuUsageDistribution c lists is_case fits = broker-cold_pairs false (load_weights 0) (near_use (ratio_at c.options.balance 0) 0 (whole_cap 0 c)) c lists (Limits-case c is_case) fits
+kind-cold_pairs kind.TopicReplicaDistribution c lists is_case fits = topic-cold_pairs false (even c.options.topic_balance (units_of c)) c lists (Limits-case c is_case) fits
+kind-cold_pairs kind.LeaderReplicaDistribution c lists is_case fits = broker-cold_pairs false leader_weights (even c.options.leader_balance (units_of c)) c lists (Limits-case c is_case) fits
+kind-cold_pairs kind.LeaderBytesInDistribution c lists is_case fits = broker-cold_pairs false leader_in_weights (below_use (ratio_at c.options.balance 1) 1 (whole_cap 1 c)) c lists (Limits-case c is_case) fits
+
+-- a trade that cannot lessen it does not
+pub kind-idle_trades : (k : GoalKind) (c : Cluster) (lists : Lists) → IsCase c → Belongs c lists → IfSome (any_weights k) (IdleTrades (meaning_of k c) (any_heat k c lists) c.parts lists)
+kind-idle_trades kind.Evacuation c lists is_case fits = tt
+kind-idle_trades kind.RackAware c lists is_case fits = tt
+kind-idle_trades kind.ReplicaCapacity c lists is_case fits = broker-idle_trades true replica_weights (at_most c.options.max_replicas) c lists (Limits-case c is_case) fits
+kind-idle_trades kind.DiskCapacity c lists is_case fits = broker-idle_trades true (load_weights 3) (within_capacity (ratio_at c.options.limit 3) 3) c lists (Limits-case c is_case) fits
+kind-idle_trades kind.NetworkInboundCapacity c lists is_case fits = broker-idle_trades true (load_weights 1) (within_capacity (ratio_at c.options.limit 1) 1) c lists (Limits-case c is_case) fits
+kind-idle_trades kind.NetworkOutboundCapacity c lists is_case fits = broker-idle_trades true (load_weights 2) (within_capacity (ratio_at c.options.limit 2) 2) c lists (Limits-case c is_case) fits
+kind-idle_trades kind.CpuCapacity c lists is_case fits = broker-idle_trades true (load_weights 0) (within_capacity (ratio_at c.options.limit 0) 0) c lists (Limits-case c is_case) fits
+kind-idle_trades kind.Demotion c lists is_case fits = tt
+kind-idle_trades kind.ReplicaDistribution c lists is_case fits = broker-idle_trades false replica_weights (even c.options.replica_balance (units_of c)) c lists (Limits-case c is_case) fits
+kind-idle_trades kind.PotentialNwOut c lists is_case fits = broker-idle_trades false potential_out_weights (within_capacity (ratio_at c.options.limit 2) 2) c lists (Limits-case c is_case) fits
+kind-idle_trades kind.DiskUsageDistribution c lists is_case fits = broker-idle_trades false (load_weights 3) (near_use (ratio_at c.options.balance 3) 3 (whole_cap 3 c)) c lists (Limits-case c is_case) fits
+kind-idle_trades kind.NetworkInboundUsageDistribution c lists is_case fits = broker-idle_trades false (load_weights 1) (near_use (ratio_at c.options.balance 1) 1 (whole_cap 1 c)) c lists (Limits-case c is_case) fits
+kind-idle_trades kind.NetworkOutboundUsageDistribution c lists is_case fits = broker-idle_trades false (load_weights 2) (near_use (ratio_at c.options.balance 2) 2 (whole_cap 2 c)) c lists (Limits-case c is_case) fits
+kind-idle_trades kind.CpuUsageDistribution c lists is_case fits = broker-idle_trades false (load_weights 0) (near_use (ratio_at c.options.balance 0) 0 (whole_cap 0 c)) c lists (Limits-case c is_case) fits
+kind-idle_trades kind.TopicReplicaDistribution c lists is_case fits = tt
+kind-idle_trades kind.LeaderReplicaDistribution c lists is_case fits = broker-idle_trades false leader_weights (even c.options.leader_balance (units_of c)) c lists (Limits-case c is_case) fits
+kind-idle_trades kind.LeaderBytesInDistribution c lists is_case fits = broker-idle_trades false leader_in_weights (below_use (ratio_at c.options.balance 1) 1 (whole_cap 1 c)) c lists (Limits-case c is_case) fits

@@ -1,0 +1,103 @@
+-- What a goal of any kind is for, and what it keeps of its case.
+use Rattle.std.specs.Prelude.{◌≡◌, ℕ, Option, Some, None}
+use Rattle.plan_terms.specs.Cluster.{Cluster, Lists}
+use Rattle.plan_terms.specs.Faults.{topics}
+use Rattle.plan_terms.specs.Goal.{Meaning}
+use Rattle.plan_terms.specs.Racks.{rack_excess}
+use Rattle.goal_terms.specs.Bands.{units_of, whole_cap, at_most, within_capacity, even, near_use, below_use}
+use Rattle.goal_terms.specs.Goals.{ratio_at}
+use Rattle.goal_terms.specs.Heats.{broker_heat, partition_heat}
+use Rattle.goal_terms.specs.Partitions.{demoted_first, lost_members}
+use Rattle.goal_terms.specs.PerTopic.{topic_heat}
+use Rattle.goal_terms.specs.Quantity.{Weights, replica_weights, leader_weights, load_weights, potential_out_weights, leader_in_weights}
+use Rattle.goal_terms.specs.declared.heat.Heat.{Heat}
+use Rattle.broker_goals.specs.Made.{IsThreshold}
+use Rattle.goal_set.specs.Kinds.{meaning_of}
+use Rattle.goal_set.specs.declared.any.AnyGoal.{AnyGoal}
+use Rattle.goal_set.specs.declared.any.AnyGoal.TheVariants as any
+use Rattle.goal_set.specs.declared.kinds.GoalKind.{GoalKind}
+use Rattle.goal_set.specs.declared.kinds.GoalKind.TheVariants as kind
+
+-- the kind of a goal
+abbrev pub kind_of : AnyGoal → GoalKind
+kind_of (any.Evacuation g) = kind.Evacuation
+kind_of (any.RackAware g) = kind.RackAware
+kind_of (any.ReplicaCapacity g) = kind.ReplicaCapacity
+kind_of (any.DiskCapacity g) = kind.DiskCapacity
+kind_of (any.NetworkInboundCapacity g) = kind.NetworkInboundCapacity
+kind_of (any.NetworkOutboundCapacity g) = kind.NetworkOutboundCapacity
+kind_of (any.CpuCapacity g) = kind.CpuCapacity
+kind_of (any.Demotion g) = kind.Demotion
+kind_of (any.ReplicaDistribution g) = kind.ReplicaDistribution
+kind_of (any.PotentialNwOut g) = kind.PotentialNwOut
+kind_of (any.DiskUsageDistribution g) = kind.DiskUsageDistribution
+kind_of (any.NetworkInboundUsageDistribution g) = kind.NetworkInboundUsageDistribution
+kind_of (any.NetworkOutboundUsageDistribution g) = kind.NetworkOutboundUsageDistribution
+kind_of (any.CpuUsageDistribution g) = kind.CpuUsageDistribution
+kind_of (any.TopicReplicaDistribution g) = kind.TopicReplicaDistribution
+kind_of (any.LeaderReplicaDistribution g) = kind.LeaderReplicaDistribution
+kind_of (any.LeaderBytesInDistribution g) = kind.LeaderBytesInDistribution
+
+-- what a goal means for a cluster
+abbrev pub any_meaning : AnyGoal → Cluster → Meaning
+any_meaning g c = meaning_of (kind_of g) c
+
+-- the goal was made for the cluster: what it keeps of the options, and what it counted, is the cluster's
+abbrev pub any_made : AnyGoal → Cluster → Type 0
+any_made (any.Evacuation g) c = Unit {0}
+any_made (any.RackAware g) c = Unit {0}
+any_made (any.ReplicaCapacity g) c = Unit {0} × (g.band.most ≡ c.options.max_replicas)
+any_made (any.DiskCapacity g) c = Unit {0} × IsThreshold g.band.limit (ratio_at c.options.limit 3)
+any_made (any.NetworkInboundCapacity g) c = Unit {0} × IsThreshold g.band.limit (ratio_at c.options.limit 1)
+any_made (any.NetworkOutboundCapacity g) c = Unit {0} × IsThreshold g.band.limit (ratio_at c.options.limit 2)
+any_made (any.CpuCapacity g) c = Unit {0} × IsThreshold g.band.limit (ratio_at c.options.limit 0)
+any_made (any.Demotion g) c = Unit {0}
+any_made (any.ReplicaDistribution g) c = Unit {0} × (IsThreshold g.band.ratio c.options.replica_balance × (g.band.units ≡ units_of c))
+any_made (any.PotentialNwOut g) c = Unit {0} × IsThreshold g.band.limit (ratio_at c.options.limit 2)
+any_made (any.DiskUsageDistribution g) c = Unit {0} × (IsThreshold g.band.ratio (ratio_at c.options.balance 3) × (g.band.whole ≡ whole_cap 3 c))
+any_made (any.NetworkInboundUsageDistribution g) c = Unit {0} × (IsThreshold g.band.ratio (ratio_at c.options.balance 1) × (g.band.whole ≡ whole_cap 1 c))
+any_made (any.NetworkOutboundUsageDistribution g) c = Unit {0} × (IsThreshold g.band.ratio (ratio_at c.options.balance 2) × (g.band.whole ≡ whole_cap 2 c))
+any_made (any.CpuUsageDistribution g) c = Unit {0} × (IsThreshold g.band.ratio (ratio_at c.options.balance 0) × (g.band.whole ≡ whole_cap 0 c))
+any_made (any.TopicReplicaDistribution g) c = (IsThreshold g.band.ratio c.options.topic_balance × (g.band.units ≡ units_of c)) × (g.topics.items ≡ topics c.parts)
+any_made (any.LeaderReplicaDistribution g) c = Unit {0} × (IsThreshold g.band.ratio c.options.leader_balance × (g.band.units ≡ units_of c))
+any_made (any.LeaderBytesInDistribution g) c = Unit {0} × (IsThreshold g.band.ratio (ratio_at c.options.balance 1) × (g.band.whole ≡ whole_cap 1 c))
+
+-- where the quantity of the broker of an id lies
+abbrev pub any_heat : GoalKind → Cluster → Lists → ℕ → Heat
+any_heat kind.Evacuation c lists b = partition_heat (lost_members c) lists b
+any_heat kind.RackAware c lists b = partition_heat (rack_excess c) lists b
+any_heat kind.ReplicaCapacity c lists b = broker_heat replica_weights (at_most c.options.max_replicas) c lists b
+any_heat kind.DiskCapacity c lists b = broker_heat (load_weights 3) (within_capacity (ratio_at c.options.limit 3) 3) c lists b
+any_heat kind.NetworkInboundCapacity c lists b = broker_heat (load_weights 1) (within_capacity (ratio_at c.options.limit 1) 1) c lists b
+any_heat kind.NetworkOutboundCapacity c lists b = broker_heat (load_weights 2) (within_capacity (ratio_at c.options.limit 2) 2) c lists b
+any_heat kind.CpuCapacity c lists b = broker_heat (load_weights 0) (within_capacity (ratio_at c.options.limit 0) 0) c lists b
+any_heat kind.Demotion c lists b = partition_heat (demoted_first c) lists b
+any_heat kind.ReplicaDistribution c lists b = broker_heat replica_weights (even c.options.replica_balance (units_of c)) c lists b
+any_heat kind.PotentialNwOut c lists b = broker_heat potential_out_weights (within_capacity (ratio_at c.options.limit 2) 2) c lists b
+any_heat kind.DiskUsageDistribution c lists b = broker_heat (load_weights 3) (near_use (ratio_at c.options.balance 3) 3 (whole_cap 3 c)) c lists b
+any_heat kind.NetworkInboundUsageDistribution c lists b = broker_heat (load_weights 1) (near_use (ratio_at c.options.balance 1) 1 (whole_cap 1 c)) c lists b
+any_heat kind.NetworkOutboundUsageDistribution c lists b = broker_heat (load_weights 2) (near_use (ratio_at c.options.balance 2) 2 (whole_cap 2 c)) c lists b
+any_heat kind.CpuUsageDistribution c lists b = broker_heat (load_weights 0) (near_use (ratio_at c.options.balance 0) 0 (whole_cap 0 c)) c lists b
+any_heat kind.TopicReplicaDistribution c lists b = topic_heat (topics c.parts) (even c.options.topic_balance (units_of c)) c lists b
+any_heat kind.LeaderReplicaDistribution c lists b = broker_heat leader_weights (even c.options.leader_balance (units_of c)) c lists b
+any_heat kind.LeaderBytesInDistribution c lists b = broker_heat leader_in_weights (below_use (ratio_at c.options.balance 1) 1 (whole_cap 1 c)) c lists b
+
+-- what the places of a list add to a broker's quantity
+abbrev pub any_weights : GoalKind → Option Weights
+any_weights kind.Evacuation = None
+any_weights kind.RackAware = None
+any_weights kind.ReplicaCapacity = Some replica_weights
+any_weights kind.DiskCapacity = Some (load_weights 3)
+any_weights kind.NetworkInboundCapacity = Some (load_weights 1)
+any_weights kind.NetworkOutboundCapacity = Some (load_weights 2)
+any_weights kind.CpuCapacity = Some (load_weights 0)
+any_weights kind.Demotion = None
+any_weights kind.ReplicaDistribution = Some replica_weights
+any_weights kind.PotentialNwOut = Some potential_out_weights
+any_weights kind.DiskUsageDistribution = Some (load_weights 3)
+any_weights kind.NetworkInboundUsageDistribution = Some (load_weights 1)
+any_weights kind.NetworkOutboundUsageDistribution = Some (load_weights 2)
+any_weights kind.CpuUsageDistribution = Some (load_weights 0)
+any_weights kind.TopicReplicaDistribution = None
+any_weights kind.LeaderReplicaDistribution = Some leader_weights
+any_weights kind.LeaderBytesInDistribution = Some leader_in_weights

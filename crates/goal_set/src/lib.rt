@@ -1,0 +1,20 @@
+//! The goals by name, the ordered lists of them, and what a run of the planner over a list gives.
+#![tactic(auto)]
+
+mod any;
+mod failure;
+mod kinds;
+mod list;
+mod names;
+mod plan;
+#[cfg(test)]
+mod tests;
+mod trace;
+
+pub use any::{AnyGoal, goal_of};
+pub use failure::Failure;
+pub use kinds::GoalKind;
+pub use list::{GoalFault, GoalList};
+pub use names::GoalName;
+pub use plan::Plan;
+pub use trace::{Trace, Turned};
