@@ -31,15 +31,16 @@ fn part(alloc: Global, topic: &str, number: u32, loads: Loads) -> Result<Part, F
     })
 }
 
-// Loads of some units, which differ by resource.
-fn loads(unit: u32) -> Loads
-    ensures { slice_index result.follow 2 ≡ 0 }
+// A partition with loads of some units, which differ by resource.
+fn small_part(alloc: Global, topic: &str, number: u32, unit: u32) -> Result<Part, Fail>
+    ensures { IfOk result (λ p. slice_index p.loads.follow 2 ≡ 0) }
 {
     let unit = u64::from(unit);
-    Loads {
+    let loads = Loads {
         lead: [10 * unit, 20 * unit, 30 * unit, 40 * unit],
         follow: [unit, 2 * unit, 0, 4 * unit],
-    }
+    };
+    part(alloc, topic, number, loads)
 }
 
 fn options() -> Result<Options, Fail> {
@@ -59,19 +60,33 @@ fn options() -> Result<Options, Fail> {
     })
 }
 
+fn small_brokers(alloc: Global, first: BrokerState) -> Result<Vec<Broker>, Fail> {
+    let a = broker(0, 100, first);
+    let b = broker(1, 300, BrokerState::Alive);
+    let c = broker(2, 100, BrokerState::Alive);
+    Ok(vec![in alloc; a, b, c]?)
+}
+
+fn small_parts(alloc: Global) -> Result<Vec<Part>, Fail>
+    ensures length { IfOk result (λ parts. length parts.items ≡ 3) }
+    ensures followers { IfOk result (λ parts. All (λ p. slice_index p.loads.follow 2 ≡ 0) parts.items) }
+{
+    let one = small_part(alloc, "a", 0, 1)?;
+    let ten = small_part(alloc, "a", 1, 10)?;
+    let hundred = small_part(alloc, "b", 0, 100)?;
+    Ok(vec![in alloc; one, ten, hundred]?)
+}
+
 // Three brokers, the first of which is in some state, and three partitions of two topics.
 fn small_case(alloc: Global, first: BrokerState) -> Result<Case, Fail>
     ensures { IfOk result (λ c. length c.parts ≡ 3) }
 {
-    let a = broker(0, 100, first);
-    let b = broker(1, 300, BrokerState::Alive);
-    let c = broker(2, 100, BrokerState::Alive);
-    let brokers = vec![in alloc; a, b, c]?;
-    let one = part(alloc, "a", 0, loads(1))?;
-    let ten = part(alloc, "a", 1, loads(10))?;
-    let hundred = part(alloc, "b", 0, loads(100))?;
-    let parts = vec![in alloc; one, ten, hundred]?;
-    Ok(Case::new(alloc, brokers, parts, options()?)?)
+    Ok(Case::new(
+        alloc,
+        small_brokers(alloc, first)?,
+        small_parts(alloc)?,
+        options()?,
+    )?)
 }
 
 // The first broker leads all partitions, and the second one follows in the first of them.
