@@ -121,6 +121,20 @@ fn expect<G: Goal>(rt: &impl Abort, goal: &G, case: &Case, book: &LoadBook, want
     }
 }
 
+fn replicas(
+    rt: &impl Abort,
+    alloc: Global,
+    case: &Case,
+    book: &LoadBook,
+    want: &[u128],
+) -> Result<(), Fail>
+    requires { IsBookOf case.now book.now }
+{
+    let goal = ReplicaDistributionGoal::new(alloc, case)?;
+    expect(rt, &goal, case, book, want);
+    Ok(())
+}
+
 fn topics(
     rt: &impl Abort,
     alloc: Global,
@@ -196,6 +210,7 @@ fn spreads_what_three_brokers_hold(rt: HostRuntime) -> Result<(), Fail> {
     let alloc = rt.alloc();
     let case = small_case(alloc, BrokerState::Alive)?;
     let book = small_book(alloc, &case)?;
+    replicas(&rt, alloc, &case, &book, &[1, 0, 1])?;
     topics(&rt, alloc, &case, &book, &[1, 0, 1, 0, 0, 0])?;
     cpu(&rt, alloc, &case, &book, &[4327900, 2994700, 999900])?;
     inbound(&rt, alloc, &case, &book, &[8433600, 5322800, 1777600])?;
@@ -210,6 +225,7 @@ fn spreads_what_a_lost_broker_holds(rt: HostRuntime) -> Result<(), Fail> {
     let alloc = rt.alloc();
     let case = small_case(alloc, BrokerState::Dead)?;
     let book = small_book(alloc, &case)?;
+    replicas(&rt, alloc, &case, &book, &[0, 1])?;
     topics(&rt, alloc, &case, &book, &[0, 1, 0, 0])?;
     cpu(&rt, alloc, &case, &book, &[2995700, 999900])?;
     inbound(&rt, alloc, &case, &book, &[5324800, 1777600])?;
