@@ -2,6 +2,8 @@
 #![tactic(auto)]
 
 mod goals;
+#[cfg(test)]
+mod tests;
 mod topic;
 
 pub use goals::{
