@@ -2,6 +2,7 @@
 ghost use Rattle.std.specs.Prelude.{◌≡◌, ◌<◌, ◌≤◌, ℕ, List, length, take, Option, OnOk, OnErr, IfOk, IfSome, IsErrOf};
 ghost use Rattle.cc_base.specs.Outside.{Beside, HasCause, HasRisen, appended, after, IsNext, IsPrefixOut};
 
+use plan_terms::Memory;
 use std::alloc::{AllocError, Global};
 use thiserror::Error;
 
@@ -40,6 +41,16 @@ impl From<AllocError> for FileFault {
     ghost from_gives = { λ _ e. e ≡ fault.Memory };
 
     fn from(_: AllocError) -> Self {
+        FileFault::Memory
+    }
+}
+
+impl From<Memory> for FileFault {
+    ghost use Rattle.cc_base.specs.declared.outside.FileFault.TheVariants as fault;
+
+    ghost from_gives = { λ _ e. e ≡ fault.Memory };
+
+    fn from(_: Memory) -> Self {
         FileFault::Memory
     }
 }

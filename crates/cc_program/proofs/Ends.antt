@@ -1,23 +1,75 @@
--- What an end with a status says.
-use Rattle.std.proofs.Common.{◌≡◌, ℕ, List, [], ◌∷◌, ◌++◌, get_or}
-use Rattle.std.specs.Prelude.{Option, codes}
-use Rattle.cc_base.specs.Outside.{appended}
-use Rattle.cc_program.specs.Answers.{IsFailureText}
-use Rattle.cc_program.specs.Goals.{goal_names}
-use Rattle.cc_program.specs.Quiet.{IsAnswer}
-use Rattle.cc_program.specs.Runs.{Edge, Runs, IsTold, status_of, line_of}
+-- What a command's answer says once it is written, and what an end with a status says.
+use Rattle.std.proofs.Common.{◌≡◌, ◌⊎◌, inl, inr, ℕ, List, [], ◌∷◌, ◌++◌, refl}
+use Rattle.std.specs.Prelude.{Option, Some, None, IfSome}
+use Rattle.cc_base.specs.Outside.{HasRisen, IsPrefixOut, appended}
+use Rattle.goal_set.specs.declared.kinds.GoalKind.{GoalKind}
+use Rattle.cc_program.specs.Input.{ClusterLists}
+use Rattle.cc_program.specs.Quiet.{IsAnswer, Means}
+use Rattle.cc_program.specs.Runs.{Edge, IsApplyMade, IsCheckMade, IsDoneText, IsFailedText, IsMade, IsPlanMade, IsRefusedText, IsText, IsTold, Runs, Writes, goal_line, line_of, status_of}
+use Rattle.cc_program.specs.Words.{Asked, plan, apply, check, command, file_of}
+use Rattle.cc_program.specs.declared.answers.Answer.{Answer}
+use Rattle.cc_program.specs.declared.answers.Answer.TheVariants as answer
 use Rattle.cc_program.specs.declared.quiet.End.{End}
-use Rattle.cc_program.specs.declared.quiet.End.TheVariants.{Done, Usage, Refused, GoalFailed, FileFault, WriteFault, Memory}
+use Rattle.cc_program.specs.declared.quiet.End.TheVariants.{Done, Usage, Refused, GoalFailed, FileFault, WriteFault, Memory, TraceRefused}
+
+-- what was made is the text of some answer
+abbrev Tells : (List ℕ → Option (List ℕ)) → Asked → ClusterLists → Answer → Type 0
+Tells told asked file (answer.Planned text) = IsDoneText told asked file text.items
+Tells told asked file (answer.Applied exec text) = IsDoneText told asked file text.items
+Tells told asked file (answer.Failed line text) = (goal : GoalKind) × IsFailedText asked file goal text.items × (line.items ≡ goal_line goal)
+Tells told asked file (answer.Good text) = IsDoneText told asked file text.items
+Tells told asked file (answer.Faulty text) = IsRefusedText told asked file text.items
+
+tells : (told : List ℕ → Option (List ℕ)) (asked : Asked) (file : ClusterLists) (a : Answer) → IsMade told asked file a → Tells told asked file a
+tells told (plan name) file (answer.Planned text) h = h
+tells told (plan name) file (answer.Applied exec text) h = absurd h
+tells told (plan name) file (answer.Failed line text) h = h
+tells told (plan name) file (answer.Good text) h = absurd h
+tells told (plan name) file (answer.Faulty text) h = absurd h
+tells told (apply name) file (answer.Planned text) h = absurd h
+tells told (apply name) file (answer.Applied exec text) h = h.5
+tells told (apply name) file (answer.Failed line text) h = h
+tells told (apply name) file (answer.Good text) h = absurd h
+tells told (apply name) file (answer.Faulty text) h = absurd h
+tells told (check name trace) file (answer.Planned text) h = absurd h
+tells told (check name trace) file (answer.Applied exec text) h = absurd h
+tells told (check name trace) file (answer.Failed line text) h = absurd h
+tells told (check name trace) file (answer.Good text) h = h
+tells told (check name trace) file (answer.Faulty text) h = h
+
+-- a text that is written, or a front of it, is what the words ask for
+module _ (words : List (List ℕ)) (e : Edge) (asked : Asked) (means : command words ≡ Some asked) (file : ClusterLists) (meant : IfSome (e.told (file_of asked)) (λ bytes. Means bytes file)) where
+  answered : {P : Asked → ClusterLists → Type 0} → P asked file → IsAnswer words e.told P
+  answered h = record { asked = asked; means = means; file = file; meant = meant; answered = h }
+
+  done : (end : End) (text : List ℕ) → IsDoneText e.told asked file text
+      → ((end ≡ Done) × (e.written_now ≡ appended e.written_before text)) ⊎ ((end ≡ WriteFault) × HasRisen e.out_before e.out_now × IsPrefixOut e.written_before e.written_now text)
+      → Runs words e end
+  done end text h (inl w) = rw w.0 (text, answered h, w.1)
+  done end text h (inr w) = rw w.0 (text, answered (inl h), w.1, w.2)
+
+  written_one : (a : Answer) (end : End) → Tells e.told asked file a → Writes e.written_before e.written_now e.out_before e.out_now a end → Runs words e end
+  written_one (answer.Planned text) end h w = done end text.items h w
+  written_one (answer.Applied exec text) end h w = done end text.items h w
+  written_one (answer.Good text) end h w = done end text.items h w
+  written_one (answer.Failed line text) end h (inl w) = rw w.0 (h.0, text.items, answered h.1, w.1, h.2)
+  written_one (answer.Failed line text) end h (inr w) = rw w.0 (text.items, answered (inr (inl (h.0, h.1))), w.1, w.2)
+  written_one (answer.Faulty text) end h (inl w) = rw w.0 (text.items, answered h, w.1)
+  written_one (answer.Faulty text) end h (inr w) = rw w.0 (text.items, answered (inr (inr h)), w.1, w.2)
+
+  pub written : (a : Answer) (end : End) → IsMade e.told asked file a → Writes e.written_before e.written_now e.out_before e.out_now a end → Runs words e end
+  written a end h w = written_one a end (tells e.told asked file a h) w
 
 -- status 4 is that of a goal that fails
 pub failure_of : (words : List (List ℕ)) (e : Edge) (end : End) (old new : Option (List ℕ)) (before now : ℕ)
     → Runs words e end → IsTold (line_of end) old new before now → status_of end ≡ 4
-    → (place : ℕ) × (text : List ℕ) × IsAnswer words e.told (λ verb file. IsFailureText file place text) × (e.written_now ≡ appended e.written_before text)
-    × IsTold (codes "hard goal failed: " ++ get_or goal_names place [] ++ 10 ∷ []) old new before now
-failure_of words e (GoalFailed place) old new before now r t s = (place, r.0, r.1, r.2, t)
+    → (goal : GoalKind) × (text : List ℕ) × IsAnswer words e.told (λ asked file. IsFailedText asked file goal text) × (e.written_now ≡ appended e.written_before text)
+    × IsTold (goal_line goal) old new before now
+failure_of words e (GoalFailed line) old new before now r t s = (r.0, r.1, r.2, r.3, rw r.4 at t)
 failure_of words e Done old new before now r t s = absurd cc
 failure_of words e Usage old new before now r t s = absurd cc
 failure_of words e (Refused line) old new before now r t s = absurd cc
 failure_of words e FileFault old new before now r t s = absurd cc
 failure_of words e WriteFault old new before now r t s = absurd cc
 failure_of words e Memory old new before now r t s = absurd cc
+failure_of words e TraceRefused old new before now r t s = absurd cc

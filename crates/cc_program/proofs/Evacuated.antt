@@ -9,6 +9,10 @@ use Rattle.plan_terms.specs.Goal.{Meaning, measure, sum_below}
 use Rattle.plan_terms.specs.Legal.{is_lost}
 use Rattle.plan_terms.specs.Trace.{Turns, after_turns}
 use Rattle.plan_terms.specs.declared.actions.Action.{Action}
+use Rattle.goal_set.specs.Kept.{PlanView}
+use Rattle.goal_set.specs.declared.kinds.GoalKind.{GoalKind}
+use Rattle.goal_optimizer.specs.Outcomes.{IsPlanOf}
+use Rattle.cc_program.specs.Goals.{BeginsWithEvacuation}
 use Rattle.plan_terms.proofs.GoalLemmas.{sum_below-le}
 use Rattle.plan_terms.proofs.Runs.{excess-Steps, length-after_all, length-after_turns}
 
@@ -52,3 +56,9 @@ evacuated c gs lists (t ∷ ts) h e = λ k d l.
     let met : lost_members c (list_of (after_all t lists) k) ≡ 0 = no_term (λ u. lost_members c (list_of (after_all t lists) u)) (length c.parts) k (h.1 refl) few in
     let left : lost_members c (list_of (after_turns ts (after_all t lists)) k) ≡ 0 = omega (arith, kept c (evacuation_goal c) [] gs (after_all t lists) ts h.2 k few) in
     rw (same_at (after_turns ts (after_all t lists)) k d [] l) (none_of (is_lost c) _ left)
+
+pub plan-evacuated : (c : Cluster) (start : Lists) (goals : List GoalKind) (p : PlanView) → IsPlanOf c start goals p → BeginsWithEvacuation goals
+    → All (λ list. list_any (is_lost c) list ≡ false) p.end
+plan-evacuated c start goals p h first =
+    let each = rw (h.case_is, h.start_is, h.goals_are, first.1) at h.kept.planned.each in
+    rw (h.kept.end_is, h.start_is) (evacuated c _ start _ each (rw (h.case_is, h.start_is) at h.kept.start_belongs.one_each))

@@ -2,5 +2,4 @@ pub mod Ends
 pub mod Evacuated
 pub mod LoadLemmas
 pub mod Made
-pub mod PlanSteps
-pub mod Scan
+pub mod Traces

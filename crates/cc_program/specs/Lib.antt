@@ -1,8 +1,6 @@
 pub mod Answers
 pub mod Goals
 pub mod Input
-pub mod Kinds
-pub mod Outcome
 pub mod Quiet
 pub mod Runs
 pub mod Views

@@ -3,8 +3,7 @@ use Rattle.std.specs.Prelude.{◌≡◌, ℕ, List, [], ◌∷◌, ◌++◌, Opt
 use Rattle.cluster_json.specs.Faults.{Fault}
 use Rattle.cluster_json.specs.Texts.{fault_text}
 use Rattle.cc_program.specs.Input.{ClusterLists, input_of}
-use Rattle.cc_program.specs.Words.{Asked, command}
-use Rattle.cc_program.specs.declared.words.Verb.{Verb}
+use Rattle.cc_program.specs.Words.{Asked, command, file_of}
 
 -- the bytes give this to plan for
 abbrev pub Means : List ℕ → ClusterLists → Type 0
@@ -19,17 +18,17 @@ abbrev pub refusal_line : Fault → List ℕ
 refusal_line fault = codes "cluster refused: " ++ fault_text fault ++ 10 ∷ []
 
 -- the words are a command for a file, and P holds of what is asked and of what the file means
-pub record IsAnswer (words : List (List ℕ)) (told : List ℕ → Option (List ℕ)) (P : Verb → ClusterLists → Type 0) : Type 0 where
+pub record IsAnswer (words : List (List ℕ)) (told : List ℕ → Option (List ℕ)) (P : Asked → ClusterLists → Type 0) : Type 0 where
   pub asked : Asked
   pub means : command words ≡ Some asked
   pub file : ClusterLists
-  pub meant : IfSome (told asked.name) (λ bytes. Means bytes file)
-  pub answered : P asked.verb file
+  pub meant : IfSome (told (file_of asked)) (λ bytes. Means bytes file)
+  pub answered : P asked file
 
 -- the words are a command for a file that is refused, and the line tells its first fault
 pub record IsRefusal (words : List (List ℕ)) (told : List ℕ → Option (List ℕ)) (line : List ℕ) : Type 0 where
   pub asked : Asked
   pub means : command words ≡ Some asked
   pub fault : Fault
-  pub refused : IfSome (told asked.name) (λ bytes. IsRefused bytes fault)
+  pub refused : IfSome (told (file_of asked)) (λ bytes. IsRefused bytes fault)
   pub line_is : line ≡ refusal_line fault

@@ -5,9 +5,7 @@ mod answers;
 mod goals;
 mod input;
 mod loads;
-mod plan;
 mod quiet;
-mod turn;
 mod words;
 
 use cc_base::{HostFiles, HostSink, HostSource, HostStream};

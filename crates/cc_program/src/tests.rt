@@ -1,3 +1,7 @@
+mod clusters;
+mod goals;
+mod traces;
+
 use crate::input::{Loaded, read_input};
 use crate::quiet::run_quiet;
 use cc_base::{Failing, FileFault, Files, MemoryFile, MemoryFiles, MemorySink, MemorySource};

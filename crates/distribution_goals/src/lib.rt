@@ -2,8 +2,6 @@
 #![tactic(auto)]
 
 mod goals;
-#[cfg(test)]
-mod tests;
 mod topic;
 
 pub use goals::{

@@ -16,6 +16,10 @@ default_kinds =
     ∷ kind.CpuUsageDistribution ∷ kind.TopicReplicaDistribution ∷ kind.LeaderReplicaDistribution
     ∷ kind.LeaderBytesInDistribution ∷ []
 
+-- the goal that has this name
+unfoldable pub kind_called : List ℕ → Option GoalKind
+kind_called name = find (λ k. bytes_eq name (name_of k)) default_kinds
+
 -- a goal that each list has, and so none names
 abbrev pub is_built_in : GoalKind → Bool
 is_built_in kind.Evacuation = true

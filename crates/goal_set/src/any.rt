@@ -1,7 +1,8 @@
 // A goal of any kind, as one type.
-ghost use Rattle.std.specs.Prelude.{◌≡◌, ◌<◌, ◌^◌, ◌↔◌, IfOk, IsTrue, length, option_map};
+ghost use Rattle.std.specs.Prelude.{◌≡◌, ◌<◌, ◌^◌, ◌↔◌, IfOk, IsTrue, length, map, option_map};
+ghost use Rattle.std.specs.List.{All};
 ghost use Rattle.goal_set.specs.AnyMeaning.{any_heat, any_made, any_meaning, any_weights, kind_of};
-ghost use Rattle.goal_set.specs.Kinds.{meaning_of};
+ghost use Rattle.goal_set.specs.Kinds.{meaning_of, meanings};
 
 use crate::kinds::GoalKind;
 use capacity_goals::{
@@ -89,6 +90,18 @@ pub fn goal_of(alloc: Global, kind: GoalKind, case: &Case) -> Result<AnyGoal, Me
             LeaderBytesInDistributionGoal::new(alloc, case)?,
         ),
     })
+}
+
+/// The goal of each kind, for the case.
+pub fn goals_of(alloc: Global, kinds: &[GoalKind], case: &Case) -> Result<Vec<AnyGoal>, Memory>
+    ensures made { IfOk result (λ goals. All (λ g. any_made g case.now) goals.items) }
+    ensures meanings { IfOk result (λ goals. map (λ g. any_meaning g case.now) goals.items ≡ meanings case.now kinds.now) }
+{
+    let mut goals = Vec::new(alloc);
+    for kind in kinds {
+        goals.push(goal_of(alloc, *kind, case)?)?;
+    }
+    Ok(goals)
 }
 
 impl Goal for AnyGoal {

@@ -11,7 +11,7 @@ mod plan;
 mod tests;
 mod trace;
 
-pub use any::{AnyGoal, goal_of};
+pub use any::{AnyGoal, goal_of, goals_of};
 pub use failure::Failure;
 pub use kinds::GoalKind;
 pub use list::{GoalFault, GoalList};

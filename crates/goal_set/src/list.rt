@@ -1,6 +1,7 @@
 // Lists of goals, and how they are read from names.
-ghost use Rattle.std.specs.Prelude.{◌≡◌, ◌≢◌, ◌++◌, ◌∷◌, [], IfOk, IfErr, OnOk, Some, None, find, option_map};
-ghost use Rattle.goal_set.specs.Read.{among, default_kinds, first_again, first_missing, first_unknown, goes_by, is_as_hard, is_built_in, is_missing, kept_kind, kind_named, kinds_named, listed, names_fault, read_fault, read_kinds};
+ghost use Rattle.std.specs.Prelude.{◌≡◌, ◌≢◌, ◌++◌, ◌∷◌, [], IfOk, IfErr, OnOk, Some, None, bytes_eq, find, option_map};
+ghost use Rattle.goal_set.specs.Kinds.{name_of};
+ghost use Rattle.goal_set.specs.Read.{among, default_kinds, first_again, first_missing, first_unknown, goes_by, is_as_hard, is_built_in, is_missing, kept_kind, kind_called, kind_named, kinds_named, listed, names_fault, read_fault, read_kinds};
 ghost use Rattle.goal_set.specs.declared.kinds.GoalKind.TheVariants as kind;
 
 use crate::kinds::GoalKind;
@@ -90,6 +91,23 @@ fn default_kinds() -> [GoalKind; 17]
         GoalKind::LeaderReplicaDistribution,
         GoalKind::LeaderBytesInDistribution,
     ]
+}
+
+// The first of the kinds that has a name.
+fn first_called(kinds: &[GoalKind], name: &str) -> Option<GoalKind>
+    ensures { result ≡ find (λ k. bytes_eq name.now (name_of k)) kinds.now }
+{
+    kinds.iter().copied().find(|kind| name == kind.name())
+}
+
+impl GoalKind {
+    /// The goal that has this name: one that a user may name, or one that each list of goals has.
+    #[tactic(auto, unfolding(crate::specs::Read::kind_called))]
+    pub fn of_name(name: &str) -> Option<GoalKind>
+        ensures { result ≡ kind_called name.now }
+    {
+        first_called(&default_kinds(), name)
+    }
 }
 
 fn is_built_in(kind: GoalKind) -> bool
@@ -261,5 +279,13 @@ impl GoalList {
         ensures { result.now ≡ self.now }
     {
         self.kinds.as_slice()
+    }
+
+    /// The same goals.
+    pub fn copy(&self, alloc: Global) -> Result<GoalList, Memory>
+        ensures { IfOk result (λ l. l ≡ self.now) }
+    {
+        let kinds = Vec::from_slice(alloc, self.kinds())?;
+        Ok(GoalList { kinds })
     }
 }

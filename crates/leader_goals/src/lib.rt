@@ -4,9 +4,6 @@
 ghost use Rattle.goal_terms.specs.Goals.{leader_distribution_goal, leader_in_goal, potential_out_goal};
 ghost use Rattle.std.specs.Prelude.{◌≡◌};
 
-#[cfg(test)]
-mod tests;
-
 use broker_goals::{
     BelowUse, BrokerGoal, Even, LeaderBalance, LeaderIn, Leaders, NetworkIn, NetworkOut,
     PotentialOut, Soft, WithinCapacity,

@@ -2,7 +2,7 @@
 ghost use Rattle.std.specs.Prelude.{◌≡◌, ℕ, ◌<◌, length, slice_set, get_or, IsTrue, false};
 ghost use Rattle.plan_terms.specs.Belongs.{Belongs};
 ghost use Rattle.plan_terms.specs.Cluster.{Cluster, Lists, list_of, has, leads, is_known};
-ghost use Rattle.plan_terms.specs.Effect.{replace, exchange_first, after};
+ghost use Rattle.plan_terms.specs.Effect.{replace, exchange_first, after, inverse};
 ghost use Rattle.plan_terms.specs.Fits.{fits, targets_known};
 
 use load_model::{Case, LoadBook};
@@ -27,6 +27,7 @@ pub trait Moves {
     /// The action that takes the lists after the action back to these.
     fn inverse(&self, action: Action) -> Action
         requires { IsTrue (fits (lists self.now) action) }
+        ensures value { result ≡ inverse (lists self.now) action }
         ensures undoes { after result (after action (lists self.now)) ≡ lists self.now }
         ensures applies { IsTrue (fits (after action (lists self.now)) result) };
 }

@@ -1,0 +1,70 @@
+-- A run of the planner after one turn more, and how it ends.
+use Rattle.std.proofs.Common.{◌≡◌, ℕ, ◌+◌, ◌<◌, ◌≤◌, true, false, List, [], ◌∷◌, ◌++◌, length, map, take, drop, get_or, refl, ap, sym, ◌∙◌, arith}
+use Rattle.std.specs.Prelude.{IsTrue}
+use Rattle.std.proofs.lemmas.List.{take_more, take_all, take-map, map-append, take-append-drop, get_or-map, length-map, length-take}
+use Rattle.plan_terms.specs.Belongs.{Belongs}
+use Rattle.plan_terms.specs.Cluster.{Cluster, Lists}
+use Rattle.plan_terms.specs.Effect.{after_all}
+use Rattle.plan_terms.specs.Goal.{Meaning, measure}
+use Rattle.plan_terms.specs.Trace.{Turn, Turns, after_turns}
+use Rattle.plan_terms.specs.declared.actions.Action.{Action}
+use Rattle.goal_set.specs.Kept.{IsPlan, IsFailure}
+use Rattle.goal_set.specs.Kinds.{meaning_of, meanings}
+use Rattle.goal_set.specs.declared.kinds.GoalKind.{GoalKind}
+use Rattle.goal_set.specs.declared.trace.Trace.{Trace}
+use Rattle.goal_set.specs.declared.trace.Turned.{Turned}
+use Rattle.goal_optimizer.proofs.PlanSteps.{planned_more, failed_here}
+
+-- two lists that mean the same do so front by front and place by place
+module _ {X Y : Type 0} (f : X → Meaning) (h : Y → Meaning) (xs : List X) (ys : List Y) (same : map f xs ≡ map h ys) where
+  pub same_length : length xs ≡ length ys
+  same_length = sym (length-map xs f) ∙ ap length same ∙ length-map ys h
+
+  pub same_front : (i : ℕ) → map f (take i xs) ≡ map h (take i ys)
+  same_front i = sym (take-map f i xs) ∙ ap (take i) same ∙ take-map h i ys
+
+  pub same_at : (i : ℕ) (x : X) (d y : Y) → i < length ys → x ≡ get_or xs i x → y ≡ get_or ys i d → f x ≡ h y
+  same_at i x d y l at_x at_y =
+      ap f at_x ∙ sym (get_or-map f xs i x (f x) (rw same_length l)) ∙ ap (λ ms. get_or ms i (f x)) same ∙ get_or-map h ys i d (f x) l ∙ ap h (sym at_y)
+
+module _ (c : Cluster) (start : Lists) (kinds : List GoalKind) (turns : List Turned) (place : ℕ) (goals_are : map (λ t. t.goal) turns ≡ take place kinds)
+    (before : Turns c [] (meanings c (take place kinds)) start (map (λ t. t.actions) turns)) (belongs : Belongs c start) where
+  pub is_plan : (trace : Trace) (end : Lists) → trace.turns.items ≡ turns → trace.planned ≡ true → length kinds ≤ place
+      → end ≡ after_turns (map (λ t. t.actions) turns) start → Belongs c end
+      → IsPlan (record { case = c; start = start; goals = kinds; trace = trace; end = end })
+  is_plan trace end turns_are planned l end_is end_belongs = record {
+    planned_is = planned;
+    in_order = rw turns_are (goals_are ∙ take_all place kinds l);
+    planned = record { each = rw (turns_are, ← take_all place kinds l) before };
+    end_is = rw turns_are end_is;
+    start_belongs = belongs;
+    end_belongs = end_belongs;
+  }
+
+  module _ (d kind : GoalKind) (actions : List Action) (l : place < length kinds) (at : kind ≡ get_or kinds place d)
+      (here : Turn c (meanings c (take place kinds)) (meaning_of kind c) (after_turns (map (λ t. t.actions) turns) start) actions) where
+    abbrev last : Turned
+    last = record { goal = kind; actions = actions }
+
+    pub goals_more : map (λ t. t.goal) (turns ++ last ∷ []) ≡ take (place + 1) kinds
+    goals_more = rw (map-append (λ t. t.goal) turns (last ∷ []), goals_are, take_more kinds place d l, ← at) refl
+
+    pub actions_more : map (λ t. t.actions) (turns ++ last ∷ []) ≡ map (λ t. t.actions) turns ++ actions ∷ []
+    actions_more = map-append (λ t. t.actions) turns (last ∷ [])
+
+    pub turns_more : (IsTrue (meaning_of kind c).hard → measure (meaning_of kind c) (after_all actions (after_turns (map (λ t. t.actions) turns) start)) ≡ 0)
+        → Turns c [] (meanings c (take (place + 1) kinds)) start (map (λ t. t.actions) (turns ++ last ∷ []))
+    turns_more met = rw actions_more (planned_more (λ k. meaning_of k c) kinds place d kind l at c start (map (λ t. t.actions) turns) actions before here met)
+
+    pub is_failure : (trace : Trace) (left : ℕ) → trace.turns.items ≡ turns ++ last ∷ [] → trace.planned ≡ false → IsTrue (meaning_of kind c).hard
+        → left ≡ measure (meaning_of kind c) (after_all actions (after_turns (map (λ t. t.actions) turns) start)) → 0 < left
+        → IsFailure (record { case = c; start = start; goals = kinds; trace = trace; left = left })
+    is_failure trace left turns_are unplanned hard is above = record {
+      unplanned = unplanned;
+      untried = drop (place + 1) kinds;
+      in_order = rw (turns_are, goals_more) (sym (take-append-drop (place + 1) kinds));
+      place = place;
+      place_is = rw (turns_are, ← length-map (turns ++ last ∷ []) (λ t. t.goal), goals_more, length-take (place + 1) kinds) (omega arith);
+      failed = rw (turns_are, actions_more) (failed_here (λ k. meaning_of k c) kinds place d kind l at c start (map (λ t. t.actions) turns) actions before here left hard is above);
+      start_belongs = belongs;
+    }

@@ -1,0 +1,13 @@
+use Rattle.std.proofs.Common.{map, take, ◌≡◌, []}
+use Rattle.plan_terms.specs.Belongs.{IsBookOf}
+use Rattle.plan_terms.specs.Trace.{Turns, after_turns}
+use Rattle.goal_set.specs.Kinds.{meanings}
+use Rattle.goal_optimizer.proofs.optimiser.take_turns.Given as goal
+
+abbrev pub invariant-loop-place : goal.invariant-loop-place
+invariant-loop-place l = record {
+  turns_are : Turns l.case [] (meanings l.case (take l.place l.kinds)) l.start (map (λ t. t.actions) l.turns.items);
+  goals_are : map (λ t. t.goal) l.turns.items ≡ take l.place l.kinds;
+  book_is : l.book.lists ≡ after_turns (map (λ t. t.actions) l.turns.items) l.start;
+  belongs : IsBookOf l.case l.book;
+}

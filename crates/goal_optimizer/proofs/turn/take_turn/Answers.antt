@@ -1,0 +1,27 @@
+use Rattle.std.proofs.Common.{◌∙◌}
+use Rattle.plan_terms.proofs.EffectLemmas.{fits-legal, targets_known-legal, Belongs-legal}
+use Rattle.plan_terms.proofs.Runs.{Steps-nil, Steps-push, after_all-push}
+use Rattle.goal_optimizer.proofs.turn.take_turn.Goals as goal
+
+pub scan-init : goal.scan-init
+scan-init g c = record {
+  steps = rw c.new-actions.ensures (Steps-nil _ _ _ _);
+  book_is = rw c.new-actions.ensures;
+  belongs = c.requires.belongs;
+}
+
+pub apply-requires-clause-applies : goal.apply-requires-clause-applies
+apply-requires-clause-applies g c = let step = rw c.in-Some.is at c.in_ok-next.ensures in fits-legal _ _ _ step.legal
+
+pub apply-requires-clause-known : goal.apply-requires-clause-known
+apply-requires-clause-known g c = let step = rw c.in-Some.is at c.in_ok-next.ensures in targets_known-legal _ _ _ step.legal
+
+pub scan-preserved : goal.scan-preserved
+scan-preserved g c = let step = rw c.in-Some.is at c.in_ok-next.ensures in record {
+  steps = rw c.in_ok-push-in-Some.ensures.ok (Steps-push _ _ _ _ _ _ c.scan.invariant.steps (rw c.scan.invariant.book_is at step));
+  book_is = rw (c.in_ok-push-in-Some.ensures.ok, after_all-push, ← c.scan.invariant.book_is) c.apply.ensures.lists;
+  belongs = record {
+    cluster_is = c.apply.ensures.cluster ∙ c.scan.invariant.belongs.cluster_is;
+    lists_belong = rw c.apply.ensures.lists (Belongs-legal _ _ _ c.scan.invariant.belongs.lists_belong step.legal);
+  };
+}

@@ -1,0 +1,11 @@
+use Rattle.plan_terms.proofs.EffectLemmas.{fits-legal, targets_known-legal, Belongs-legal}
+use Rattle.plan_check.proofs.checker.resummed.Goals as goal
+
+pub apply-requires-clause-applies : goal.apply-requires-clause-applies
+apply-requires-clause-applies c = fits-legal _ _ _ c.requires.legal
+
+pub apply-requires-clause-known : goal.apply-requires-clause-known
+apply-requires-clause-known c = targets_known-legal _ _ _ c.requires.legal
+
+pub new-requires : goal.new-requires
+new-requires c = rw (c.into_lists-lists.ensures, c.apply.ensures.lists) (Belongs-legal _ _ _ c.requires.belongs.lists_belong c.requires.legal)
