@@ -1,5 +1,6 @@
 -- What a plan whose first goal is evacuation leaves.
 use Rattle.std.proofs.Common.{◌≡◌, ◌∙◌, ℕ, ◌+◌, ◌<◌, ◌≤◌, zero, suc, Bool, true, false, cond, ◌||◌, List, [], ◌∷◌, ◌++◌, length, get_or, refl, arith, sym}
+use Rattle.std.proofs.lemmas.List.{get_or_default}
 use Rattle.std.proofs.lemmas.List.Sums.{sum_by-cons}
 use Rattle.std.specs.List.{All, count_by, list_any}
 use Rattle.goal_terms.specs.Partitions.{evacuation_goal, lost_members}
@@ -40,12 +41,6 @@ none_of : {X : Type 0} (p : X → Bool) (xs : List X) → count_by p xs ≡ 0 �
 none_of p [] h = refl
 none_of p (x ∷ xs) h = one_of (p x) (list_any p xs) (count_by p xs) (sym (sum_by-cons (λ y. cond (p y) 1 0) x xs) ∙ h) (none_of p xs)
 
--- in range no default counts
-same_at : {X : Type 0} (xs : List X) (k : ℕ) (d e : X) → k < length xs → get_or xs k d ≡ get_or xs k e
-same_at [] k d e l = absurd (omega arith)
-same_at (x ∷ xs) zero d e l = refl
-same_at (x ∷ xs) (suc k) d e l = same_at xs k d e (omega arith)
-
 -- a plan that evacuates first leaves no replica on a lost broker
 pub evacuated : (c : Cluster) (gs : List Meaning) (lists : Lists) (ts : List (List Action)) → Turns c [] (evacuation_goal c ∷ gs) lists ts → length lists ≡ length c.parts
     → All (λ list. list_any (is_lost c) list ≡ false) (after_turns ts lists)
@@ -55,7 +50,7 @@ evacuated c gs lists (t ∷ ts) h e = λ k d l.
     let few : k < length c.parts = omega (arith, length-after_turns ts (after_all t lists), length-after_all t lists) in
     let met : lost_members c (list_of (after_all t lists) k) ≡ 0 = no_term (λ u. lost_members c (list_of (after_all t lists) u)) (length c.parts) k (h.1 refl) few in
     let left : lost_members c (list_of (after_turns ts (after_all t lists)) k) ≡ 0 = omega (arith, kept c (evacuation_goal c) [] gs (after_all t lists) ts h.2 k few) in
-    rw (same_at (after_turns ts (after_all t lists)) k d [] l) (none_of (is_lost c) _ left)
+    rw (get_or_default (after_turns ts (after_all t lists)) k d [] l) (none_of (is_lost c) _ left)
 
 pub plan-evacuated : (c : Cluster) (start : Lists) (goals : List GoalKind) (p : PlanView) → IsPlanOf c start goals p → BeginsWithEvacuation goals
     → All (λ list. list_any (is_lost c) list ≡ false) p.end

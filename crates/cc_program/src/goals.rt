@@ -2,8 +2,8 @@
 ghost use Rattle.std.specs.Prelude.{◌≡◌, IfOk};
 ghost use Rattle.cc_program.specs.Goals.{rack_kinds};
 
-use goal_set::{GoalList, GoalName};
-use load_model::Memory;
+use goal_set::GoalList;
+use load_model::{GoalName, Memory};
 use std::alloc::Global;
 
 /// The goals of a command that names the rack goal alone, in order of priority: no replica on a lost broker, distinct racks,

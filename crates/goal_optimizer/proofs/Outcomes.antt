@@ -1,11 +1,11 @@
 -- A run of the planner after one turn more, and how it ends.
-use Rattle.std.proofs.Common.{◌≡◌, ℕ, ◌+◌, ◌<◌, ◌≤◌, true, false, List, [], ◌∷◌, ◌++◌, length, map, take, drop, get_or, refl, ap, sym, ◌∙◌, arith}
+use Rattle.std.proofs.Common.{◌≡◌, ℕ, ◌+◌, ◌<◌, ◌≤◌, true, false, List, [], ◌∷◌, ◌++◌, length, map, take, drop, get_or, refl, sym, ◌∙◌, arith}
 use Rattle.std.specs.Prelude.{IsTrue}
-use Rattle.std.proofs.lemmas.List.{take_more, take_all, take-map, map-append, take-append-drop, get_or-map, length-map, length-take}
+use Rattle.std.proofs.lemmas.List.{take_more, take_all, map-append, take-append-drop, length-map, length-take}
 use Rattle.plan_terms.specs.Belongs.{Belongs}
 use Rattle.plan_terms.specs.Cluster.{Cluster, Lists}
 use Rattle.plan_terms.specs.Effect.{after_all}
-use Rattle.plan_terms.specs.Goal.{Meaning, measure}
+use Rattle.plan_terms.specs.Goal.{measure}
 use Rattle.plan_terms.specs.Trace.{Turn, Turns, after_turns}
 use Rattle.plan_terms.specs.declared.actions.Action.{Action}
 use Rattle.goal_set.specs.Kept.{IsPlan, IsFailure}
@@ -13,19 +13,7 @@ use Rattle.goal_set.specs.Kinds.{meaning_of, meanings}
 use Rattle.goal_set.specs.declared.kinds.GoalKind.{GoalKind}
 use Rattle.goal_set.specs.declared.trace.Trace.{Trace}
 use Rattle.goal_set.specs.declared.trace.Turned.{Turned}
-use Rattle.goal_optimizer.proofs.PlanSteps.{planned_more, failed_here}
-
--- two lists that mean the same do so front by front and place by place
-module _ {X Y : Type 0} (f : X → Meaning) (h : Y → Meaning) (xs : List X) (ys : List Y) (same : map f xs ≡ map h ys) where
-  pub same_length : length xs ≡ length ys
-  same_length = sym (length-map xs f) ∙ ap length same ∙ length-map ys h
-
-  pub same_front : (i : ℕ) → map f (take i xs) ≡ map h (take i ys)
-  same_front i = sym (take-map f i xs) ∙ ap (take i) same ∙ take-map h i ys
-
-  pub same_at : (i : ℕ) (x : X) (d y : Y) → i < length ys → x ≡ get_or xs i x → y ≡ get_or ys i d → f x ≡ h y
-  same_at i x d y l at_x at_y =
-      ap f at_x ∙ sym (get_or-map f xs i x (f x) (rw same_length l)) ∙ ap (λ ms. get_or ms i (f x)) same ∙ get_or-map h ys i d (f x) l ∙ ap h (sym at_y)
+use Rattle.goal_set.proofs.PlanSteps.{planned_more, failed_here}
 
 module _ (c : Cluster) (start : Lists) (kinds : List GoalKind) (turns : List Turned) (place : ℕ) (goals_are : map (λ t. t.goal) turns ≡ take place kinds)
     (before : Turns c [] (meanings c (take place kinds)) start (map (λ t. t.actions) turns)) (belongs : Belongs c start) where

@@ -104,6 +104,31 @@ pub fn goals_of(alloc: Global, kinds: &[GoalKind], case: &Case) -> Result<Vec<An
     Ok(goals)
 }
 
+// The same call on the goal, whichever it is.
+macro_rules! each_goal {
+    ($any:expr, $goal:ident => $call:expr) => {
+        match $any {
+            AnyGoal::Evacuation($goal) => $call,
+            AnyGoal::RackAware($goal) => $call,
+            AnyGoal::ReplicaCapacity($goal) => $call,
+            AnyGoal::DiskCapacity($goal) => $call,
+            AnyGoal::NetworkInboundCapacity($goal) => $call,
+            AnyGoal::NetworkOutboundCapacity($goal) => $call,
+            AnyGoal::CpuCapacity($goal) => $call,
+            AnyGoal::Demotion($goal) => $call,
+            AnyGoal::ReplicaDistribution($goal) => $call,
+            AnyGoal::PotentialNwOut($goal) => $call,
+            AnyGoal::DiskUsageDistribution($goal) => $call,
+            AnyGoal::NetworkInboundUsageDistribution($goal) => $call,
+            AnyGoal::NetworkOutboundUsageDistribution($goal) => $call,
+            AnyGoal::CpuUsageDistribution($goal) => $call,
+            AnyGoal::TopicReplicaDistribution($goal) => $call,
+            AnyGoal::LeaderReplicaDistribution($goal) => $call,
+            AnyGoal::LeaderBytesInDistribution($goal) => $call,
+        }
+    };
+}
+
 impl Goal for AnyGoal {
     ghost use Rattle.goal_set.specs.AnyLaws.{any-small, kind-cold_pairs, kind-idle_trades};
 
@@ -116,157 +141,31 @@ impl Goal for AnyGoal {
     ghost weighs = { λ g. any_weights (kind_of g) };
 
     fn is_hard(&self, case: &Case) -> bool {
-        match self {
-            AnyGoal::Evacuation(goal) => goal.is_hard(case),
-            AnyGoal::RackAware(goal) => goal.is_hard(case),
-            AnyGoal::ReplicaCapacity(goal) => goal.is_hard(case),
-            AnyGoal::DiskCapacity(goal) => goal.is_hard(case),
-            AnyGoal::NetworkInboundCapacity(goal) => goal.is_hard(case),
-            AnyGoal::NetworkOutboundCapacity(goal) => goal.is_hard(case),
-            AnyGoal::CpuCapacity(goal) => goal.is_hard(case),
-            AnyGoal::Demotion(goal) => goal.is_hard(case),
-            AnyGoal::ReplicaDistribution(goal) => goal.is_hard(case),
-            AnyGoal::PotentialNwOut(goal) => goal.is_hard(case),
-            AnyGoal::DiskUsageDistribution(goal) => goal.is_hard(case),
-            AnyGoal::NetworkInboundUsageDistribution(goal) => goal.is_hard(case),
-            AnyGoal::NetworkOutboundUsageDistribution(goal) => goal.is_hard(case),
-            AnyGoal::CpuUsageDistribution(goal) => goal.is_hard(case),
-            AnyGoal::TopicReplicaDistribution(goal) => goal.is_hard(case),
-            AnyGoal::LeaderReplicaDistribution(goal) => goal.is_hard(case),
-            AnyGoal::LeaderBytesInDistribution(goal) => goal.is_hard(case),
-        }
+        each_goal!(self, goal => goal.is_hard(case))
     }
 
     fn units(&self, case: &Case) -> usize {
-        match self {
-            AnyGoal::Evacuation(goal) => goal.units(case),
-            AnyGoal::RackAware(goal) => goal.units(case),
-            AnyGoal::ReplicaCapacity(goal) => goal.units(case),
-            AnyGoal::DiskCapacity(goal) => goal.units(case),
-            AnyGoal::NetworkInboundCapacity(goal) => goal.units(case),
-            AnyGoal::NetworkOutboundCapacity(goal) => goal.units(case),
-            AnyGoal::CpuCapacity(goal) => goal.units(case),
-            AnyGoal::Demotion(goal) => goal.units(case),
-            AnyGoal::ReplicaDistribution(goal) => goal.units(case),
-            AnyGoal::PotentialNwOut(goal) => goal.units(case),
-            AnyGoal::DiskUsageDistribution(goal) => goal.units(case),
-            AnyGoal::NetworkInboundUsageDistribution(goal) => goal.units(case),
-            AnyGoal::NetworkOutboundUsageDistribution(goal) => goal.units(case),
-            AnyGoal::CpuUsageDistribution(goal) => goal.units(case),
-            AnyGoal::TopicReplicaDistribution(goal) => goal.units(case),
-            AnyGoal::LeaderReplicaDistribution(goal) => goal.units(case),
-            AnyGoal::LeaderBytesInDistribution(goal) => goal.units(case),
-        }
+        each_goal!(self, goal => goal.units(case))
     }
 
     fn excess(&self, case: &Case, book: &LoadBook, unit: usize) -> u128 {
-        match self {
-            AnyGoal::Evacuation(goal) => goal.excess(case, book, unit),
-            AnyGoal::RackAware(goal) => goal.excess(case, book, unit),
-            AnyGoal::ReplicaCapacity(goal) => goal.excess(case, book, unit),
-            AnyGoal::DiskCapacity(goal) => goal.excess(case, book, unit),
-            AnyGoal::NetworkInboundCapacity(goal) => goal.excess(case, book, unit),
-            AnyGoal::NetworkOutboundCapacity(goal) => goal.excess(case, book, unit),
-            AnyGoal::CpuCapacity(goal) => goal.excess(case, book, unit),
-            AnyGoal::Demotion(goal) => goal.excess(case, book, unit),
-            AnyGoal::ReplicaDistribution(goal) => goal.excess(case, book, unit),
-            AnyGoal::PotentialNwOut(goal) => goal.excess(case, book, unit),
-            AnyGoal::DiskUsageDistribution(goal) => goal.excess(case, book, unit),
-            AnyGoal::NetworkInboundUsageDistribution(goal) => goal.excess(case, book, unit),
-            AnyGoal::NetworkOutboundUsageDistribution(goal) => goal.excess(case, book, unit),
-            AnyGoal::CpuUsageDistribution(goal) => goal.excess(case, book, unit),
-            AnyGoal::TopicReplicaDistribution(goal) => goal.excess(case, book, unit),
-            AnyGoal::LeaderReplicaDistribution(goal) => goal.excess(case, book, unit),
-            AnyGoal::LeaderBytesInDistribution(goal) => goal.excess(case, book, unit),
-        }
+        each_goal!(self, goal => goal.excess(case, book, unit))
     }
 
     fn accepts(&self, case: &Case, book: &LoadBook, action: Action) -> bool {
-        match self {
-            AnyGoal::Evacuation(goal) => goal.accepts(case, book, action),
-            AnyGoal::RackAware(goal) => goal.accepts(case, book, action),
-            AnyGoal::ReplicaCapacity(goal) => goal.accepts(case, book, action),
-            AnyGoal::DiskCapacity(goal) => goal.accepts(case, book, action),
-            AnyGoal::NetworkInboundCapacity(goal) => goal.accepts(case, book, action),
-            AnyGoal::NetworkOutboundCapacity(goal) => goal.accepts(case, book, action),
-            AnyGoal::CpuCapacity(goal) => goal.accepts(case, book, action),
-            AnyGoal::Demotion(goal) => goal.accepts(case, book, action),
-            AnyGoal::ReplicaDistribution(goal) => goal.accepts(case, book, action),
-            AnyGoal::PotentialNwOut(goal) => goal.accepts(case, book, action),
-            AnyGoal::DiskUsageDistribution(goal) => goal.accepts(case, book, action),
-            AnyGoal::NetworkInboundUsageDistribution(goal) => goal.accepts(case, book, action),
-            AnyGoal::NetworkOutboundUsageDistribution(goal) => goal.accepts(case, book, action),
-            AnyGoal::CpuUsageDistribution(goal) => goal.accepts(case, book, action),
-            AnyGoal::TopicReplicaDistribution(goal) => goal.accepts(case, book, action),
-            AnyGoal::LeaderReplicaDistribution(goal) => goal.accepts(case, book, action),
-            AnyGoal::LeaderBytesInDistribution(goal) => goal.accepts(case, book, action),
-        }
+        each_goal!(self, goal => goal.accepts(case, book, action))
     }
 
     fn lessens(&self, case: &Case, book: &LoadBook, action: Action) -> bool {
-        match self {
-            AnyGoal::Evacuation(goal) => goal.lessens(case, book, action),
-            AnyGoal::RackAware(goal) => goal.lessens(case, book, action),
-            AnyGoal::ReplicaCapacity(goal) => goal.lessens(case, book, action),
-            AnyGoal::DiskCapacity(goal) => goal.lessens(case, book, action),
-            AnyGoal::NetworkInboundCapacity(goal) => goal.lessens(case, book, action),
-            AnyGoal::NetworkOutboundCapacity(goal) => goal.lessens(case, book, action),
-            AnyGoal::CpuCapacity(goal) => goal.lessens(case, book, action),
-            AnyGoal::Demotion(goal) => goal.lessens(case, book, action),
-            AnyGoal::ReplicaDistribution(goal) => goal.lessens(case, book, action),
-            AnyGoal::PotentialNwOut(goal) => goal.lessens(case, book, action),
-            AnyGoal::DiskUsageDistribution(goal) => goal.lessens(case, book, action),
-            AnyGoal::NetworkInboundUsageDistribution(goal) => goal.lessens(case, book, action),
-            AnyGoal::NetworkOutboundUsageDistribution(goal) => goal.lessens(case, book, action),
-            AnyGoal::CpuUsageDistribution(goal) => goal.lessens(case, book, action),
-            AnyGoal::TopicReplicaDistribution(goal) => goal.lessens(case, book, action),
-            AnyGoal::LeaderReplicaDistribution(goal) => goal.lessens(case, book, action),
-            AnyGoal::LeaderBytesInDistribution(goal) => goal.lessens(case, book, action),
-        }
+        each_goal!(self, goal => goal.lessens(case, book, action))
     }
 
     fn heat(&self, case: &Case, book: &LoadBook, broker: usize) -> Heat {
-        match self {
-            AnyGoal::Evacuation(goal) => goal.heat(case, book, broker),
-            AnyGoal::RackAware(goal) => goal.heat(case, book, broker),
-            AnyGoal::ReplicaCapacity(goal) => goal.heat(case, book, broker),
-            AnyGoal::DiskCapacity(goal) => goal.heat(case, book, broker),
-            AnyGoal::NetworkInboundCapacity(goal) => goal.heat(case, book, broker),
-            AnyGoal::NetworkOutboundCapacity(goal) => goal.heat(case, book, broker),
-            AnyGoal::CpuCapacity(goal) => goal.heat(case, book, broker),
-            AnyGoal::Demotion(goal) => goal.heat(case, book, broker),
-            AnyGoal::ReplicaDistribution(goal) => goal.heat(case, book, broker),
-            AnyGoal::PotentialNwOut(goal) => goal.heat(case, book, broker),
-            AnyGoal::DiskUsageDistribution(goal) => goal.heat(case, book, broker),
-            AnyGoal::NetworkInboundUsageDistribution(goal) => goal.heat(case, book, broker),
-            AnyGoal::NetworkOutboundUsageDistribution(goal) => goal.heat(case, book, broker),
-            AnyGoal::CpuUsageDistribution(goal) => goal.heat(case, book, broker),
-            AnyGoal::TopicReplicaDistribution(goal) => goal.heat(case, book, broker),
-            AnyGoal::LeaderReplicaDistribution(goal) => goal.heat(case, book, broker),
-            AnyGoal::LeaderBytesInDistribution(goal) => goal.heat(case, book, broker),
-        }
+        each_goal!(self, goal => goal.heat(case, book, broker))
     }
 
     fn weight(&self, case: &Case, part: u32, leads: bool) -> Option<u64> {
-        match self {
-            AnyGoal::Evacuation(goal) => goal.weight(case, part, leads),
-            AnyGoal::RackAware(goal) => goal.weight(case, part, leads),
-            AnyGoal::ReplicaCapacity(goal) => goal.weight(case, part, leads),
-            AnyGoal::DiskCapacity(goal) => goal.weight(case, part, leads),
-            AnyGoal::NetworkInboundCapacity(goal) => goal.weight(case, part, leads),
-            AnyGoal::NetworkOutboundCapacity(goal) => goal.weight(case, part, leads),
-            AnyGoal::CpuCapacity(goal) => goal.weight(case, part, leads),
-            AnyGoal::Demotion(goal) => goal.weight(case, part, leads),
-            AnyGoal::ReplicaDistribution(goal) => goal.weight(case, part, leads),
-            AnyGoal::PotentialNwOut(goal) => goal.weight(case, part, leads),
-            AnyGoal::DiskUsageDistribution(goal) => goal.weight(case, part, leads),
-            AnyGoal::NetworkInboundUsageDistribution(goal) => goal.weight(case, part, leads),
-            AnyGoal::NetworkOutboundUsageDistribution(goal) => goal.weight(case, part, leads),
-            AnyGoal::CpuUsageDistribution(goal) => goal.weight(case, part, leads),
-            AnyGoal::TopicReplicaDistribution(goal) => goal.weight(case, part, leads),
-            AnyGoal::LeaderReplicaDistribution(goal) => goal.weight(case, part, leads),
-            AnyGoal::LeaderBytesInDistribution(goal) => goal.weight(case, part, leads),
-        }
+        each_goal!(self, goal => goal.weight(case, part, leads))
     }
 
     ghost small = { λ g c lists made is_case fits. any-small g c lists made is_case fits };

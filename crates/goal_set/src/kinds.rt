@@ -27,30 +27,118 @@ pub enum GoalKind {
     LeaderBytesInDistribution,
 }
 
+// A goal of the default list.
+#[derive(Clone, Copy)]
+pub(crate) struct DefaultGoal {
+    pub(crate) kind: GoalKind,
+    name: &'static str,
+    hard: bool,
+}
+
+// The goals of a request that names none, in the order of their turns: the one table of names and hardness too. It has
+// the order of the variants, so that a kind's number is its place.
+pub(crate) const DEFAULT_GOALS: [DefaultGoal; 17] = [
+    DefaultGoal {
+        kind: GoalKind::Evacuation,
+        name: "EvacuationGoal",
+        hard: true,
+    },
+    DefaultGoal {
+        kind: GoalKind::RackAware,
+        name: "RackAwareGoal",
+        hard: true,
+    },
+    DefaultGoal {
+        kind: GoalKind::ReplicaCapacity,
+        name: "ReplicaCapacityGoal",
+        hard: true,
+    },
+    DefaultGoal {
+        kind: GoalKind::DiskCapacity,
+        name: "DiskCapacityGoal",
+        hard: true,
+    },
+    DefaultGoal {
+        kind: GoalKind::NetworkInboundCapacity,
+        name: "NetworkInboundCapacityGoal",
+        hard: true,
+    },
+    DefaultGoal {
+        kind: GoalKind::NetworkOutboundCapacity,
+        name: "NetworkOutboundCapacityGoal",
+        hard: true,
+    },
+    DefaultGoal {
+        kind: GoalKind::CpuCapacity,
+        name: "CpuCapacityGoal",
+        hard: true,
+    },
+    DefaultGoal {
+        kind: GoalKind::Demotion,
+        name: "DemotionGoal",
+        hard: false,
+    },
+    DefaultGoal {
+        kind: GoalKind::ReplicaDistribution,
+        name: "ReplicaDistributionGoal",
+        hard: false,
+    },
+    DefaultGoal {
+        kind: GoalKind::PotentialNwOut,
+        name: "PotentialNwOutGoal",
+        hard: false,
+    },
+    DefaultGoal {
+        kind: GoalKind::DiskUsageDistribution,
+        name: "DiskUsageDistributionGoal",
+        hard: false,
+    },
+    DefaultGoal {
+        kind: GoalKind::NetworkInboundUsageDistribution,
+        name: "NetworkInboundUsageDistributionGoal",
+        hard: false,
+    },
+    DefaultGoal {
+        kind: GoalKind::NetworkOutboundUsageDistribution,
+        name: "NetworkOutboundUsageDistributionGoal",
+        hard: false,
+    },
+    DefaultGoal {
+        kind: GoalKind::CpuUsageDistribution,
+        name: "CpuUsageDistributionGoal",
+        hard: false,
+    },
+    DefaultGoal {
+        kind: GoalKind::TopicReplicaDistribution,
+        name: "TopicReplicaDistributionGoal",
+        hard: false,
+    },
+    DefaultGoal {
+        kind: GoalKind::LeaderReplicaDistribution,
+        name: "LeaderReplicaDistributionGoal",
+        hard: false,
+    },
+    DefaultGoal {
+        kind: GoalKind::LeaderBytesInDistribution,
+        name: "LeaderBytesInDistributionGoal",
+        hard: false,
+    },
+];
+
 impl GoalKind {
+    fn default_goal(self) -> DefaultGoal
+        ensures kind { result.kind ≡ self }
+        ensures name { result.name.now ≡ name_of self }
+        ensures hard { result.hard ≡ is_hard_kind self }
+    {
+        DEFAULT_GOALS[self as usize]
+    }
+
     /// The name of the goal.
     pub fn name(self) -> &'static str
         ensures { result.now ≡ name_of self }
     {
-        match self {
-            GoalKind::Evacuation => "EvacuationGoal",
-            GoalKind::RackAware => "RackAwareGoal",
-            GoalKind::ReplicaCapacity => "ReplicaCapacityGoal",
-            GoalKind::DiskCapacity => "DiskCapacityGoal",
-            GoalKind::NetworkInboundCapacity => "NetworkInboundCapacityGoal",
-            GoalKind::NetworkOutboundCapacity => "NetworkOutboundCapacityGoal",
-            GoalKind::CpuCapacity => "CpuCapacityGoal",
-            GoalKind::Demotion => "DemotionGoal",
-            GoalKind::ReplicaDistribution => "ReplicaDistributionGoal",
-            GoalKind::PotentialNwOut => "PotentialNwOutGoal",
-            GoalKind::DiskUsageDistribution => "DiskUsageDistributionGoal",
-            GoalKind::NetworkInboundUsageDistribution => "NetworkInboundUsageDistributionGoal",
-            GoalKind::NetworkOutboundUsageDistribution => "NetworkOutboundUsageDistributionGoal",
-            GoalKind::CpuUsageDistribution => "CpuUsageDistributionGoal",
-            GoalKind::TopicReplicaDistribution => "TopicReplicaDistributionGoal",
-            GoalKind::LeaderReplicaDistribution => "LeaderReplicaDistributionGoal",
-            GoalKind::LeaderBytesInDistribution => "LeaderBytesInDistributionGoal",
-        }
+        self.default_goal().name
     }
 
     /// Whether a plan fails where the goal stays broken.
@@ -58,15 +146,6 @@ impl GoalKind {
         ensures value { result ≡ is_hard_kind self }
         ensures meaning { (c : Cluster) → (meaning_of self c).hard ≡ result }
     {
-        matches!(
-            self,
-            GoalKind::Evacuation
-                | GoalKind::RackAware
-                | GoalKind::ReplicaCapacity
-                | GoalKind::DiskCapacity
-                | GoalKind::NetworkInboundCapacity
-                | GoalKind::NetworkOutboundCapacity
-                | GoalKind::CpuCapacity
-        )
+        self.default_goal().hard
     }
 }

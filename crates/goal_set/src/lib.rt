@@ -5,7 +5,6 @@ mod any;
 mod failure;
 mod kinds;
 mod list;
-mod names;
 mod plan;
 #[cfg(test)]
 mod tests;
@@ -15,6 +14,5 @@ pub use any::{AnyGoal, goal_of, goals_of};
 pub use failure::Failure;
 pub use kinds::GoalKind;
 pub use list::{GoalFault, GoalList};
-pub use names::GoalName;
 pub use plan::Plan;
 pub use trace::{Trace, Turned};

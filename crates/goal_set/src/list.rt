@@ -1,12 +1,11 @@
 // Lists of goals, and how they are read from names.
-ghost use Rattle.std.specs.Prelude.{◌≡◌, ◌≢◌, ◌++◌, ◌∷◌, [], IfOk, IfErr, OnOk, Some, None, bytes_eq, find, option_map};
+ghost use Rattle.std.specs.Prelude.{◌≡◌, ◌≢◌, ◌++◌, ◌∷◌, [], IfOk, IfErr, OnOk, Some, None, bytes_eq, find, map, option_map};
 ghost use Rattle.goal_set.specs.Kinds.{name_of};
-ghost use Rattle.goal_set.specs.Read.{among, default_kinds, first_again, first_missing, first_unknown, goes_by, is_as_hard, is_built_in, is_missing, kept_kind, kind_called, kind_named, kinds_named, listed, names_fault, read_fault, read_kinds};
+ghost use Rattle.goal_set.specs.Read.{among, first_again, first_missing, first_unknown, goes_by, is_as_hard, is_built_in, is_missing, kept_kind, kind_called, kind_named, kinds_named, listed, names_fault, read_fault, read_kinds};
 ghost use Rattle.goal_set.specs.declared.kinds.GoalKind.TheVariants as kind;
 
-use crate::kinds::GoalKind;
-use crate::names::GoalName;
-use load_model::Memory;
+use crate::kinds::{DEFAULT_GOALS, DefaultGoal, GoalKind};
+use load_model::{GoalName, Memory};
 use std::alloc::{AllocError, AllocFailed, Global};
 use std::marker::Model;
 
@@ -68,36 +67,21 @@ impl Model for GoalList {
     ghost view = { λ l. l.kinds.items };
 }
 
-// The goals of a request that names none.
-fn default_kinds() -> [GoalKind; 17]
-    ensures { result ≡ default_kinds }
+// The kinds of some goals.
+fn kinds_of(alloc: Global, goals: &[DefaultGoal]) -> Result<Vec<GoalKind>, Memory>
+    ensures { IfOk result (λ v. v.items ≡ map (λ g. g.kind) goals.now) }
 {
-    [
-        GoalKind::Evacuation,
-        GoalKind::RackAware,
-        GoalKind::ReplicaCapacity,
-        GoalKind::DiskCapacity,
-        GoalKind::NetworkInboundCapacity,
-        GoalKind::NetworkOutboundCapacity,
-        GoalKind::CpuCapacity,
-        GoalKind::Demotion,
-        GoalKind::ReplicaDistribution,
-        GoalKind::PotentialNwOut,
-        GoalKind::DiskUsageDistribution,
-        GoalKind::NetworkInboundUsageDistribution,
-        GoalKind::NetworkOutboundUsageDistribution,
-        GoalKind::CpuUsageDistribution,
-        GoalKind::TopicReplicaDistribution,
-        GoalKind::LeaderReplicaDistribution,
-        GoalKind::LeaderBytesInDistribution,
-    ]
+    Ok(goals.iter().map(|goal| goal.kind).collect(alloc)?)
 }
 
-// The first of the kinds that has a name.
-fn first_called(kinds: &[GoalKind], name: &str) -> Option<GoalKind>
-    ensures { result ≡ find (λ k. bytes_eq name.now (name_of k)) kinds.now }
+// The first of the goals that has a name.
+fn first_called(goals: &[DefaultGoal], name: &str) -> Option<GoalKind>
+    ensures { result ≡ find (λ k. bytes_eq name.now (name_of k)) (map (λ g. g.kind) goals.now) }
 {
-    kinds.iter().copied().find(|kind| name == kind.name())
+    goals
+        .iter()
+        .map(|goal| goal.kind)
+        .find(|kind| name == kind.name())
 }
 
 impl GoalKind {
@@ -106,7 +90,7 @@ impl GoalKind {
     pub fn of_name(name: &str) -> Option<GoalKind>
         ensures { result ≡ kind_called name.now }
     {
-        first_called(&default_kinds(), name)
+        first_called(&DEFAULT_GOALS, name)
     }
 }
 
@@ -123,11 +107,14 @@ fn goes_by(name: &str, kind: GoalKind) -> bool
     !is_built_in(kind) && name == kind.name()
 }
 
-// The first of the kinds that goes by a name.
-fn first_by_name(kinds: &[GoalKind], name: &str) -> Option<GoalKind>
-    ensures { result ≡ find (goes_by name.now) kinds.now }
+// The first of the goals that goes by a name.
+fn first_by_name(goals: &[DefaultGoal], name: &str) -> Option<GoalKind>
+    ensures { result ≡ find (goes_by name.now) (map (λ g. g.kind) goals.now) }
 {
-    kinds.iter().copied().find(|kind| goes_by(name, *kind))
+    goals
+        .iter()
+        .map(|goal| goal.kind)
+        .find(|kind| goes_by(name, *kind))
 }
 
 // The goal of a name.
@@ -135,7 +122,7 @@ fn first_by_name(kinds: &[GoalKind], name: &str) -> Option<GoalKind>
 fn kind_named(name: &str) -> Option<GoalKind>
     ensures { result ≡ kind_named name.now }
 {
-    first_by_name(&default_kinds(), name)
+    first_by_name(&DEFAULT_GOALS, name)
 }
 
 fn is_among(names: &[GoalName], name: &str) -> bool
@@ -173,11 +160,14 @@ fn is_missing(names: &[GoalName], kind: GoalKind) -> bool
     kind.is_hard() && !is_built_in(kind) && !is_among(names, kind.name())
 }
 
-// The first of the kinds that is missing.
-fn first_missing_of(kinds: &[GoalKind], names: &[GoalName]) -> Option<GoalKind>
-    ensures { result ≡ find (is_missing names.now) kinds.now }
+// The first of the goals that is missing.
+fn first_missing_of(goals: &[DefaultGoal], names: &[GoalName]) -> Option<GoalKind>
+    ensures { result ≡ find (is_missing names.now) (map (λ g. g.kind) goals.now) }
 {
-    kinds.iter().copied().find(|kind| is_missing(names, *kind))
+    goals
+        .iter()
+        .map(|goal| goal.kind)
+        .find(|kind| is_missing(names, *kind))
 }
 
 // The first hard goal of the default list that is to be named, and is not.
@@ -185,7 +175,7 @@ fn first_missing_of(kinds: &[GoalKind], names: &[GoalName]) -> Option<GoalKind>
 fn first_missing(names: &[GoalName]) -> Option<GoalKind>
     ensures { result ≡ first_missing names.now }
 {
-    first_missing_of(&default_kinds(), names)
+    first_missing_of(&DEFAULT_GOALS, names)
 }
 
 #[tactic(auto, unfolding(crate::specs::Read::names_fault))]
@@ -257,8 +247,9 @@ impl GoalList {
         ensures fault { IfErr result (λ e. e ≢ GoalFault.Memory → read_fault names.now skip ≡ Some e) }
     {
         if names.is_empty() {
-            let kinds = Vec::from_slice(alloc, &default_kinds())?;
-            return Ok(GoalList { kinds });
+            return Ok(GoalList {
+                kinds: kinds_of(alloc, &DEFAULT_GOALS)?,
+            });
         }
         check_names(alloc, names, skip)?;
         Ok(GoalList {

@@ -2,15 +2,17 @@
 use Rattle.std.proofs.Common.{◌≡◌, ℕ, ◌+◌, ◌<◌, ◌≤◌, ◌∙◌, true, false, List, [], ◌∷◌, ◌++◌, length, take, drop, get_or, map, refl, ap, sym, subst, arith, inl, inr}
 use Rattle.std.specs.Prelude.{◌⊎◌, IsTrue, Some, slice_get, option_map}
 use Rattle.std.proofs.lemmas.Bool.{cases_Bool}
-use Rattle.std.proofs.lemmas.List.{take-map, take_all, take_more, take-append-drop, drop_more, map-append, map_push, length-map, length-take-le}
-use Rattle.std.proofs.lemmas.Option.{none-some, same_Some, slice_get-map, slice_get_within, slice_get_read, slice_get_past, slice_get-get_or, get_or_from_slice_get}
+use Rattle.std.proofs.lemmas.List.{take_all, take_more, take-append-drop, length-map}
+use Rattle.std.proofs.lemmas.Option.{none-some, slice_get-map, slice_get_within, slice_get_read, slice_get_past, slice_get-get_or, get_or_from_slice_get}
 use Rattle.plan_terms.specs.Belongs.{Belongs}
-use Rattle.plan_terms.specs.Cluster.{Cluster, Lists}
+use Rattle.plan_terms.specs.Cluster.{Lists}
 use Rattle.plan_terms.specs.Effect.{after_all}
 use Rattle.plan_terms.specs.Goal.{Meaning, measure}
-use Rattle.plan_terms.specs.Trace.{Turn, Turns, Failed}
+use Rattle.plan_terms.specs.Trace.{Turn, Turns}
 use Rattle.plan_terms.specs.declared.actions.Action.{Action}
-use Rattle.plan_terms.proofs.Runs.{Turns-nil, Turns-push, after_turns-push}
+use Rattle.plan_terms.proofs.Runs.{Turns-nil, after_turns-push}
+use Rattle.goal_set.proofs.Fronts.{same_front, same_at}
+use Rattle.goal_set.proofs.PlanSteps.{planned_more, failed_here}
 use Rattle.goal_set.specs.AnyMeaning.{any_meaning}
 use Rattle.goal_set.specs.Kept.{actions_of, kinds_of}
 use Rattle.goal_set.specs.Kinds.{meaning_of, meanings}
@@ -27,32 +29,9 @@ use Rattle.plan_check.specs.declared.faults.Verdict.TheVariants as verdict
 use Rattle.plan_check.proofs.NotGood.{not_good}
 use Rattle.plan_check.proofs.TurnLemmas.{Belongs-Turns}
 
-module _ {X : Type 0} (xs : List X) (n : ℕ) (x : X) (e : slice_get xs n ≡ Some x) where
-  one_more : take (n + 1) xs ≡ take n xs ++ x ∷ []
-  one_more = take_more xs n x (slice_get_within xs n x e) ∙ ap (λ (y : X). take n xs ++ y ∷ []) (get_or_from_slice_get xs n x x e)
-
-  split_at : xs ≡ take n xs ++ x ∷ drop (n + 1) xs
-  split_at =
-      sym (take-append-drop n xs)
-      ∙ ap (λ (ys : List X). take n xs ++ ys) (drop_more xs n x (slice_get_within xs n x e))
-      ∙ ap (λ (y : X). take n xs ++ y ∷ drop (n + 1) xs) (get_or_from_slice_get xs n x x e)
-
--- the goals that were made are those of the list
-module _ (c : Cluster) (made : List AnyGoal) (kinds : List GoalKind) (same : map (λ g. any_meaning g c) made ≡ meanings c kinds) where
-  pub length-made : length made ≡ length kinds
-  length-made = sym (length-map made (λ (g : AnyGoal). any_meaning g c)) ∙ ap length same ∙ length-map kinds (λ (k : GoalKind). meaning_of k c)
-
-  pub earlier_are : (n : ℕ) → map (λ g. any_meaning g c) (take n made) ≡ meanings c (take n kinds)
-  earlier_are n = sym (take-map (λ (g : AnyGoal). any_meaning g c) n made) ∙ ap (take n) same ∙ take-map (λ (k : GoalKind). meaning_of k c) n kinds
-
-  pub meaning_is : (n : ℕ) (g : AnyGoal) (k : GoalKind) → g ≡ get_or made n g → slice_get kinds n ≡ Some k → any_meaning g c ≡ meaning_of k c
-  meaning_is n g k e here =
-      let within : n < length made = rw length-made (slice_get_within kinds n k here) in
-      same_Some (any_meaning g c) (meaning_of k c)
-      (sym (slice_get-map (λ (h : AnyGoal). any_meaning h c) made n ∙ ap (option_map (λ (h : AnyGoal). any_meaning h c)) (slice_get_read made (length made) n g refl within e))
-      ∙ ap (λ (ms : List Meaning). slice_get ms n) same
-      ∙ slice_get-map (λ (j : GoalKind). meaning_of j c) kinds n
-      ∙ ap (option_map (λ (j : GoalKind). meaning_of j c)) here)
+-- the first elements and the next
+one_more : {X : Type 0} (xs : List X) (n : ℕ) (x : X) → slice_get xs n ≡ Some x → take (n + 1) xs ≡ take n xs ++ x ∷ []
+one_more xs n x e = take_more xs n x (slice_get_within xs n x e) ∙ ap (λ (y : _). take n xs ++ y ∷ []) (get_or_from_slice_get xs n x x e)
 
 module _ (x : Checked) where
   pub good_before-none : IsGoodBefore x 0
@@ -76,8 +55,10 @@ module _ (x : Checked) where
       → IsTurnEnd x.case (map (λ h. any_meaning h x.case) (take n made)) (any_meaning g x.case) lists actions r
       → IsTurnEnd x.case (goals_before x n) (meaning_of k x.case) (lists_at x n) actions r
   turn_end made same n g k lists actions r e here lists_are h =
-      subst (λ (m : Meaning). IsTurnEnd x.case (goals_before x n) m (lists_at x n) actions r) (meaning_is x.case made x.goals same n g k e here)
-      (subst (λ (ms : List Meaning). IsTurnEnd x.case ms (any_meaning g x.case) (lists_at x n) actions r) (earlier_are x.case made x.goals same n)
+      let meaning_is = same_at (λ h'. any_meaning h' x.case) (λ j. meaning_of j x.case) made x.goals same n g k k (slice_get_within x.goals n k here) e (sym (get_or_from_slice_get x.goals n k k here)) in
+      let earlier_are = same_front (λ h'. any_meaning h' x.case) (λ j. meaning_of j x.case) made x.goals same n in
+      subst (λ (m : Meaning). IsTurnEnd x.case (goals_before x n) m (lists_at x n) actions r) meaning_is
+      (subst (λ (ms : List Meaning). IsTurnEnd x.case ms (any_meaning g x.case) (lists_at x n) actions r) earlier_are
       (subst (λ (ls : Lists). IsTurnEnd x.case (map (λ (h' : AnyGoal). any_meaning h' x.case) (take n made)) (any_meaning g x.case) ls actions r) lists_are h))
 
   -- turn n is there, and of another goal, or there is no n-th
@@ -97,8 +78,11 @@ module _ (x : Checked) where
     kinds-more : take (n + 1) (kinds_of x.trace) ≡ take (n + 1) x.goals
     kinds-more = one_more (kinds_of x.trace) n g t.kind_is ∙ ap (λ (ks : List GoalKind). ks ++ g ∷ []) t.before.goals_are ∙ sym (one_more x.goals n g t.goal_is)
 
-    goals_before-more : goals_before x (n + 1) ≡ goals_before x n ++ meaning_of g x.case ∷ []
-    goals_before-more = ap (meanings x.case) (one_more x.goals n g t.goal_is) ∙ map_push (λ (k : GoalKind). meaning_of k x.case) (take n x.goals) g
+    n<goals : n < length x.goals
+    n<goals = slice_get_within x.goals n g t.goal_is
+
+    at : g ≡ get_or x.goals n g
+    at = sym (get_or_from_slice_get x.goals n g g t.goal_is)
 
     pub good_before-more : Turn x.case (goals_before x n) (meaning_of g x.case) (lists_at x n) actions
         → (IsTrue (meaning_of g x.case).hard → measure (meaning_of g x.case) (after_all actions (lists_at x n)) ≡ 0)
@@ -107,8 +91,8 @@ module _ (x : Checked) where
       there = let l = within in omega arith;
       goals_are = kinds-more;
       turns_are =
-          rw (goals_before-more, one_more (actions_of x.trace) n actions t.actions_are)
-          (Turns-push x.case [] (goals_before x n) (meaning_of g x.case) (take n (actions_of x.trace)) actions x.start t.before.turns_are turn met);
+          rw (one_more (actions_of x.trace) n actions t.actions_are)
+          (planned_more (λ k. meaning_of k x.case) x.goals n g g n<goals at x.case x.start (take n (actions_of x.trace)) actions t.before.turns_are turn met);
     }
 
     pub lists_at-more : lists_at x (n + 1) ≡ after_all actions (lists_at x n)
@@ -160,25 +144,6 @@ module _ (x : Checked) where
           ];
         }
 
-      failed_here : Failed x.case (meanings x.case x.goals) x.start (take n (actions_of x.trace) ++ actions ∷ []) n (measure (meaning_of g x.case) (after_all actions (lists_at x n)))
-      failed_here = record {
-        met = goals_before x n;
-        broken = meaning_of g x.case;
-        untried = meanings x.case (drop (n + 1) x.goals);
-        done = take n (actions_of x.trace);
-        last = actions;
-        place_is =
-            let l : n < length x.goals = slice_get_within x.goals n g t.goal_is in
-            sym (length-map (take n x.goals) (λ (k : GoalKind). meaning_of k x.case) ∙ length-take-le n x.goals (omega arith));
-        goals_are = ap (meanings x.case) (split_at x.goals n g t.goal_is) ∙ map-append (λ (k : GoalKind). meaning_of k x.case) (take n x.goals) (g ∷ drop (n + 1) x.goals);
-        turns_are = refl;
-        before = t.before.turns_are;
-        turn = record { steps = b.steps; finished = inr b.none_left };
-        hard = b.hard;
-        left_is = refl;
-        above = b.above;
-      }
-
       pub good_failure : x.trace.planned ≡ false → n + 1 ≡ length x.trace.turns.items → Belongs x.case x.start → IsGood x
       good_failure failed last start_belongs =
           let all_actions : length (actions_of x.trace) ≤ n + 1 = rw length-map (omega arith) in
@@ -194,7 +159,10 @@ module _ (x : Checked) where
               in_order = sym (take-append-drop (n + 1) x.goals) ∙ ap (λ (ks : List GoalKind). ks ++ drop (n + 1) x.goals) goals_are;
               place = n;
               place_is = sym last;
-              failed = rw turns_are at failed_here;
+              failed =
+                  rw turns_are at
+                  (failed_here (λ k. meaning_of k x.case) x.goals n g g n<goals at x.case x.start (take n (actions_of x.trace)) actions t.before.turns_are
+                  (record { steps = b.steps; finished = inr b.none_left }) _ b.hard refl b.above);
               start_belongs = start_belongs;
             },
           )

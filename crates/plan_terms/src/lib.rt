@@ -11,7 +11,7 @@ mod lists;
 mod ratio;
 mod texts;
 
-pub use actions::{Action, Actions, Turns};
+pub use actions::{Action, Actions};
 pub use cluster::{Broker, BrokerState, Loads, Options, Part, Res4};
 pub use digits::read_digits;
 pub use faults::{CaseFault, Limit, Memory};
@@ -21,4 +21,4 @@ pub use laws::{
 };
 pub use lists::{Proposal, Replicas};
 pub use ratio::Ratio;
-pub use texts::{RackName, Topic};
+pub use texts::{GoalName, RackName, Topic};

@@ -1,4 +1,4 @@
-// Names of racks and topics. Contracts see each as the list of its bytes.
+// Names of racks, topics and goals. Contracts see each as the list of its bytes.
 ghost use Rattle.std.specs.Prelude.{◌≡◌, IfOk, string_bytes};
 
 use crate::Memory;
@@ -78,6 +78,45 @@ impl Topic {
         ensures { IfOk result (λ t. t ≡ self.now) }
     {
         Ok(Topic {
+            text: String::from_str(alloc, self.text.as_str())?,
+        })
+    }
+}
+
+/// The name of a goal, as a user writes it: any text.
+#[derive(Debug, Drop)]
+pub struct GoalName {
+    text: String,
+}
+
+impl Model for GoalName {
+    ghost use Rattle.std.specs.Prelude.{List, ℕ, string_bytes};
+
+    ghost Value = { List ℕ };
+
+    ghost view = { λ n. string_bytes n.text };
+}
+
+impl GoalName {
+    /// The goal's name as this text.
+    pub fn new(text: String) -> Self
+        ensures { result ≡ string_bytes text }
+    {
+        GoalName { text }
+    }
+
+    /// The text.
+    pub fn as_str(&self) -> &str
+        ensures { result.now ≡ self.now }
+    {
+        self.text.as_str()
+    }
+
+    /// The same name.
+    pub fn copy(&self, alloc: Global) -> Result<Self, Memory>
+        ensures { IfOk result (λ n. n ≡ self.now) }
+    {
+        Ok(GoalName {
             text: String::from_str(alloc, self.text.as_str())?,
         })
     }

@@ -1,5 +1,6 @@
 // Lists of names, and the goals that they stand for.
-use crate::{GoalList, GoalName};
+use crate::GoalList;
+use load_model::GoalName;
 use std::alloc::Global;
 use std::test::Fail;
 

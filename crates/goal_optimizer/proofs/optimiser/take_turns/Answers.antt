@@ -6,7 +6,8 @@ use Rattle.plan_terms.proofs.Runs.{Turns-nil, after_turns-push}
 use Rattle.goal_set.specs.AnyMeaning.{any_meaning}
 use Rattle.goal_set.specs.Kinds.{meaning_of}
 use Rattle.goal_set.specs.declared.kinds.GoalKind.TheVariants.{Evacuation}
-use Rattle.goal_optimizer.proofs.Outcomes.{same_length, same_front, same_at, is_plan, goals_more, actions_more, turns_more, is_failure}
+use Rattle.goal_optimizer.proofs.Outcomes.{is_plan, goals_more, actions_more, turns_more, is_failure}
+use Rattle.goal_set.proofs.Fronts.{same_length, same_front, same_at}
 use Rattle.goal_optimizer.proofs.optimiser.take_turns.Goals as goal
 use Rattle.goal_optimizer.proofs.optimiser.take_turns.Goals.{else-is_hard-via-then-is_hard+else-left-gt0, else-is_hard-via-else-is_hard}
 

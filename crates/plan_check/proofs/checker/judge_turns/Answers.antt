@@ -2,20 +2,22 @@ use Rattle.std.proofs.Common.{◌≡◌, ◌<◌, ◌∙◌, length, refl, sym, 
 use Rattle.std.proofs.lemmas.Bool.{false≢true}
 use Rattle.std.proofs.lemmas.List.{length-take-le}
 use Rattle.std.proofs.lemmas.Option.{slice_get_within}
+use Rattle.goal_set.proofs.Fronts.{same_length}
+use Rattle.goal_set.specs.AnyMeaning.{any_meaning}
 use Rattle.goal_set.specs.Kinds.{meaning_of}
 use Rattle.plan_terms.specs.Belongs.{Book}
 use Rattle.plan_check.specs.Ends.{IsTurnEnd}
 use Rattle.plan_check.specs.Judged.{Checked, IsTurnOf, goals_before, lists_at}
 use Rattle.plan_check.specs.declared.checker.TurnEnd.{TurnEnd}
 use Rattle.plan_check.specs.declared.checker.TurnEnd.TheVariants as end
-use Rattle.plan_check.proofs.Places.{length-made, good_before-none, turn_of, turn_end, wrong_goal, good_before-more, lists_at-more, wrong_turn, not_stopped, good_failure}
+use Rattle.plan_check.proofs.Places.{good_before-none, turn_of, turn_end, wrong_goal, good_before-more, lists_at-more, wrong_turn, not_stopped, good_failure}
 use Rattle.plan_check.proofs.checker.judge_turns.Goals as goal
 use Rattle.plan_check.proofs.checker.judge_turns.Goals.{Else-not-is_goal_at, In_ok-next}
 
 -- the goal of the list was made
 within : (c : Else-not-is_goal_at) → c.loop-place.place < length c.args.goals.now
 within c =
-    rw (length-made c.args.case.now c.args.goals.now c.args.kinds.now c.requires.meanings)
+    rw (same_length (λ g. any_meaning g c.args.case.now) (λ k. meaning_of k c.args.case.now) c.args.goals.now c.args.kinds.now c.requires.meanings)
     (slice_get_within c.args.kinds.now c.loop-place.place c.turn-item.result.goal (c.is_goal_at.ensures.0 c.if-not-is_goal_at.false))
 
 -- what is checked, the turn at this place, and what its test says
