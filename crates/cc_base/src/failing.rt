@@ -15,18 +15,19 @@ pub struct FailingCalls {
 }
 
 impl FailingCalls {
-    fn new(listed: Vec<u64>) -> Self
-        ensures { result ≡ record { listed = listed; made = 0; faults = 0 } }
+    /// The calls with these numbers are to fail. The first call has the number `first`.
+    pub fn new(listed: Vec<u64>, first: u64) -> Self
+        ensures { result ≡ record { listed = listed; made = first; faults = 0 } }
     {
         FailingCalls {
             listed,
-            made: 0,
+            made: first,
             faults: 0,
         }
     }
 
-    // Counts a call, and answers whether it is to fail. Then it is a fault too.
-    fn next_fails(&mut self) -> bool
+    /// Counts a call, and answers whether it is to fail. Then it is a fault too.
+    pub fn next_fails(&mut self) -> bool
         ensures listed { IsTrue result ↔ IsListed self.old }
         ensures counts { CountsCall self.old self.new }
         ensures later { self.old.faults ≤ self.new.faults }
@@ -61,7 +62,7 @@ impl<T> Failing<T> {
     {
         Failing {
             inner,
-            calls: FailingCalls::new(calls),
+            calls: FailingCalls::new(calls, 0),
         }
     }
 

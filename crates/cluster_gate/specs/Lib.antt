@@ -1,0 +1,4 @@
+pub mod Copies
+pub mod Held
+pub mod Lists
+pub mod Receipts

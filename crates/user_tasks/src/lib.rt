@@ -1,0 +1,14 @@
+//! Requests for plans as user tasks: what was asked, its id, and how far it is.
+#![tactic(auto)]
+
+mod ask;
+mod ids;
+mod lists;
+mod table;
+#[cfg(test)]
+mod tests;
+
+pub use ask::{Ask, Op};
+pub use ids::{number_of, task_id};
+pub use lists::ListOf;
+pub use table::{AdmitFault, FindFault, Status, TaskTable, UserTask};
