@@ -1,5 +1,5 @@
 // What a request for a plan asks.
-ghost use Rattle.std.specs.Prelude.{◌≡◌, ◌↔◌, IsTrue};
+ghost use Rattle.std.specs.Prelude.{◌≡◌, ◌↔◌, IsTrue, List, ℕ};
 
 use crate::lists::ListOf;
 use load_model::{GoalName, Topic};
@@ -31,28 +31,44 @@ pub struct Ask {
     pub dryrun: bool,
 }
 
-fn same_goals(one: &[GoalName], other: &[GoalName]) -> bool
-    ensures { IsTrue result ↔ (one.now ≡ other.now) }
-{
-    if one.len() != other.len() {
-        return false;
-    }
-    for (place, goal) in one.iter().enumerate() {
-        if goal.as_str() != other[place].as_str() {
-            return false;
-        }
-    }
-    true
+// What has a text, by which it is told from others.
+trait Named {
+    ghost name: { Self → List ℕ };
+
+    fn name(&self) -> &str
+        ensures { result.now ≡ name self.now };
+
+    ghost told_apart: { (a b : Self) → name a ≡ name b → a ≡ b };
 }
 
-fn same_topics(one: &[Topic], other: &[Topic]) -> bool
+impl Named for GoalName {
+    ghost name = { λ n. n };
+
+    fn name(&self) -> &str {
+        self.as_str()
+    }
+
+    ghost told_apart = { λ _ _ e. e };
+}
+
+impl Named for Topic {
+    ghost name = { λ t. t };
+
+    fn name(&self) -> &str {
+        self.as_str()
+    }
+
+    ghost told_apart = { λ _ _ e. e };
+}
+
+fn same_names<N: Named>(one: &[N], other: &[N]) -> bool
     ensures { IsTrue result ↔ (one.now ≡ other.now) }
 {
     if one.len() != other.len() {
         return false;
     }
-    for (place, topic) in one.iter().enumerate() {
-        if topic.as_str() != other[place].as_str() {
+    for (place, named) in one.iter().enumerate() {
+        if named.name() != other[place].name() {
             return false;
         }
     }
@@ -66,9 +82,9 @@ impl Ask {
     {
         self.op == other.op
             && self.brokers.as_slice() == other.brokers.as_slice()
-            && same_goals(self.goals.as_slice(), other.goals.as_slice())
+            && same_names(self.goals.as_slice(), other.goals.as_slice())
             && self.skip == other.skip
-            && same_topics(self.excluded.as_slice(), other.excluded.as_slice())
+            && same_names(self.excluded.as_slice(), other.excluded.as_slice())
             && self.dryrun == other.dryrun
     }
 }

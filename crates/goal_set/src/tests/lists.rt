@@ -66,3 +66,12 @@ fn reads_names(rt: HostRuntime) -> Result<(), Fail> {
     }
     Ok(())
 }
+
+#[test]
+fn demotion_needs_two_goals(rt: HostRuntime) -> Result<(), Fail> {
+    let alloc = rt.alloc();
+    let goals = GoalList::demoting(alloc)?;
+    let told = format!(in alloc; "{:?}", goals.kinds())?;
+    assert_eq!(rt; told.as_str(), "[Evacuation, Demotion]");
+    Ok(())
+}
