@@ -52,6 +52,7 @@ impl Amount for Replicas {
 
     ghost made_for = { λ _ _. Unit {0} };
 
+    #[tactic(auto, using(plan_terms::proofs::SameLemmas::brokers_same))]
     fn amount(&self, _case: &Case, book: &LoadBook, broker: usize) -> u128 {
         u128::from(book.count(broker))
     }
@@ -80,6 +81,7 @@ impl Amount for Leaders {
 
     ghost made_for = { λ _ _. Unit {0} };
 
+    #[tactic(auto, using(plan_terms::proofs::SameLemmas::brokers_same))]
     fn amount(&self, _case: &Case, book: &LoadBook, broker: usize) -> u128 {
         u128::from(book.leaders(broker))
     }
@@ -110,6 +112,7 @@ impl<R: Resource> Amount for Load<R> {
 
     ghost made_for = { λ _ _. Unit {0} };
 
+    #[tactic(auto, using(plan_terms::proofs::SameLemmas::brokers_same))]
     fn amount(&self, _case: &Case, book: &LoadBook, broker: usize) -> u128 {
         book.load(broker, R::place())
     }
@@ -144,6 +147,7 @@ impl Amount for PotentialOut {
 
     ghost made_for = { λ _ _. Unit {0} };
 
+    #[tactic(auto, using(plan_terms::proofs::SameLemmas::brokers_same))]
     fn amount(&self, _case: &Case, book: &LoadBook, broker: usize) -> u128 {
         book.potential_out(broker)
     }
@@ -172,6 +176,7 @@ impl Amount for LeaderIn {
 
     ghost made_for = { λ _ _. Unit {0} };
 
+    #[tactic(auto, using(plan_terms::proofs::SameLemmas::brokers_same))]
     fn amount(&self, _case: &Case, book: &LoadBook, broker: usize) -> u128 {
         book.leader_in(broker)
     }

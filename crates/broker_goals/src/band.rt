@@ -3,9 +3,17 @@ ghost use Rattle.goal_terms.specs.Limits.{SmallCap, SmallBounds};
 ghost use Rattle.goal_terms.specs.PerBroker.{Bounds};
 ghost use Rattle.plan_terms.specs.Cluster.{Cluster};
 ghost use Rattle.plan_terms.specs.Faults.{IsCase};
-ghost use Rattle.std.specs.Prelude.{◌≡◌, ◌-◌, ◌*◌, ◌<◌, ◌^◌};
+ghost use Rattle.std.specs.Prelude.{◌≡◌, ◌<◌, ◌≤◌, ◌^◌};
 
 use load_model::{Broker, Case};
+
+/// The bounds of one broker: the least and the greatest that its quantity may be, times the scale.
+#[derive(Clone, Copy)]
+pub struct Edges {
+    pub scale: u64,
+    pub upper: u128,
+    pub lower: u128,
+}
 
 /// How great a quantity of a broker may be, and how small.
 pub trait Band {
@@ -15,22 +23,15 @@ pub trait Band {
     /// The band was made for the cluster.
     ghost made_for: { Self → Cluster → Type 0 };
 
-    /// How far an amount lies above the broker's upper bound, times the scale of the bounds: 0 where it doesn't. `all` is
-    /// what all brokers carry together.
-    fn above(&self, case: &Case, all: u128, amount: u128, broker: &Broker) -> u128
+    /// The bounds of one broker, where all brokers carry `all` together.
+    fn edges(&self, case: &Case, all: u128, broker: &Broker) -> Edges
         requires made { made_for self.now case.now }
         requires all { all < 2 ^ 49 }
-        requires amount { amount < 2 ^ 49 }
         requires cap { SmallCap broker.now }
-        ensures { result ≡ amount * (bounds self.now case.now).scale - (bounds self.now case.now).upper all broker.now };
-
-    /// How far it lies below the broker's lower bound, times that scale: 0 where it doesn't.
-    fn below(&self, case: &Case, all: u128, amount: u128, broker: &Broker) -> u128
-        requires made { made_for self.now case.now }
-        requires all { all < 2 ^ 49 }
-        requires amount { amount < 2 ^ 49 }
-        requires cap { SmallCap broker.now }
-        ensures { result ≡ (bounds self.now case.now).lower all broker.now - amount * (bounds self.now case.now).scale };
+        ensures scale { result.scale ≡ (bounds self.now case.now).scale }
+        ensures upper { result.upper ≡ (bounds self.now case.now).upper all broker.now }
+        ensures lower { result.lower ≡ (bounds self.now case.now).lower all broker.now }
+        ensures small { result.upper ≤ 2 ^ 114 };
 
     /// The products in an excess fit 120 bits.
     ghost small_bounds: { (b : Self) (c : Cluster) → made_for b c → IsCase c → SmallBounds (bounds b c) };

@@ -3,10 +3,9 @@ ghost use Rattle.broker_goals.specs.Made.{IsThreshold};
 ghost use Rattle.goal_terms.specs.Bands.{at_most, within_capacity};
 ghost use Rattle.goal_terms.specs.Goals.{ratio_at};
 ghost use Rattle.goal_terms.specs.Limits.{SmallCap, SmallBounds};
-ghost use Rattle.plan_terms.specs.Fraction.{over};
-ghost use Rattle.std.specs.Prelude.{◌≡◌, ◌-◌, ◌*◌, ◌<◌, ◌^◌, slice_index};
+ghost use Rattle.std.specs.Prelude.{◌≡◌, ◌*◌, ◌<◌, ◌≤◌, ◌^◌, slice_index};
 
-use crate::band::{Band, NewBand};
+use crate::band::{Band, Edges, NewBand};
 use crate::names::Resource;
 use load_model::{Broker, Case, Options, Ratio};
 use std::marker::PhantomData;
@@ -17,6 +16,15 @@ fn limit_at(options: &Options, place: usize) -> Ratio
     ensures { result ≡ ratio_at options.now.limit place }
 {
     options.limit[place]
+}
+
+// That share of a capacity, times its denominator.
+fn share_of(limit: Ratio, cap: u64) -> u128
+    requires { cap < 1099511627776 }
+    ensures value { result ≡ limit.num * cap }
+    ensures small { result ≤ 2 ^ 114 }
+{
+    u128::from(limit.num()) * u128::from(cap)
 }
 
 /// At most as many replicas as a broker may hold.
@@ -32,12 +40,12 @@ impl Band for AtMost {
 
     ghost made_for = { λ b c. b.most ≡ c.options.max_replicas };
 
-    fn above(&self, _case: &Case, _all: u128, amount: u128, _broker: &Broker) -> u128 {
-        amount.saturating_sub(u128::from(self.most))
-    }
-
-    fn below(&self, _case: &Case, _all: u128, _amount: u128, _broker: &Broker) -> u128 {
-        0
+    fn edges(&self, _case: &Case, _all: u128, _broker: &Broker) -> Edges {
+        Edges {
+            scale: 1,
+            upper: u128::from(self.most),
+            lower: 0,
+        }
     }
 
     ghost small_bounds = { λ _ c _ _. at_most-small c.options.max_replicas };
@@ -65,12 +73,12 @@ impl<R: Resource> Band for WithinCapacity<R> {
 
     ghost made_for = { λ b c. IsThreshold b.limit (ratio_at c.options.limit R.resource) };
 
-    fn above(&self, _case: &Case, _all: u128, amount: u128, broker: &Broker) -> u128 {
-        self.limit.over(amount, u128::from(broker.cap[R::place()]))
-    }
-
-    fn below(&self, _case: &Case, _all: u128, _amount: u128, _broker: &Broker) -> u128 {
-        0
+    fn edges(&self, _case: &Case, _all: u128, broker: &Broker) -> Edges {
+        Edges {
+            scale: u64::from(self.limit.den()),
+            upper: share_of(self.limit, broker.cap[R::place()]),
+            lower: 0,
+        }
     }
 
     ghost small_bounds = { λ _ c made _. within_capacity-small (ratio_at c.options.limit R.resource) R.resource made.small };

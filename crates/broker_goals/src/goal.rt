@@ -2,16 +2,19 @@
 ghost use Rattle.goal_terms.specs.Heats.{broker_heat};
 ghost use Rattle.goal_terms.specs.PerBroker.{broker_excess, per_broker, id_at, unit_brokers};
 ghost use Rattle.goal_terms.specs.Quantity.{part_weight};
+ghost use Rattle.goal_terms.specs.Rooms.{broker_room};
 ghost use Rattle.goal_terms.specs.Sides.{sides};
 ghost use Rattle.std.specs.Prelude.{◌≡◌, ◌+◌, ◌<◌, ◌≤◌, ◌^◌, IfOk, IsTrue, Some, get_or, length, map};
 
 use crate::amount::{Amount, NewAmount};
 use crate::band::{Band, NewBand};
-use crate::excess::{excess_at_place, heat_at_place, unit_count, unit_place};
+use crate::excess::{
+    excess_at_place, heat_at_place, room_at_place, total_of, unit_count, unit_place,
+};
 use crate::names::Strength;
 use crate::sides::{place_weight, sides_of};
 use load_model::{Case, LoadBook, Memory};
-use move_actions::{Goal, Heat};
+use move_actions::{Goal, Heat, Room};
 use plan_terms::Action;
 use std::alloc::Global;
 use std::marker::PhantomData;
@@ -56,12 +59,15 @@ impl<A: Amount, B: Band, S: Strength> Goal for BrokerGoal<A, B, S> {
     ghost use Rattle.goal_terms.proofs.BoundLemmas.{per_broker-fits_120_bits};
     ghost use Rattle.goal_terms.proofs.CaseLemmas.{Limits-case};
     ghost use Rattle.goal_terms.proofs.PairLemmas.{broker-cold_pairs, broker-idle_trades};
+    ghost use Rattle.goal_terms.proofs.RoomLemmas.{broker-rooms_decide};
 
     ghost meaning = { λ g c. per_broker S.HARD (A.weights g.kind) (B.bounds g.band c) c };
 
     ghost made_for = { λ g c. A.made_for g.kind c × B.made_for g.band c };
 
     ghost heat_at = { λ g c lists k. broker_heat (A.weights g.kind) (B.bounds g.band c) c lists k };
+
+    ghost room_at = { λ g c lists k. broker_room (A.weights g.kind) (B.bounds g.band c) c lists k };
 
     ghost weighs = { λ g. Some (A.weights g.kind) };
 
@@ -98,9 +104,21 @@ impl<A: Amount, B: Band, S: Strength> Goal for BrokerGoal<A, B, S> {
         Some(place_weight(&self.kind, case, part, leads))
     }
 
+    fn whole(&self, case: &Case, book: &LoadBook) -> Option<u128> {
+        Some(total_of(&self.kind, case, book))
+    }
+
+    fn room(&self, case: &Case, book: &LoadBook, all: u128, broker: usize) -> Option<Room> {
+        Some(room_at_place(&self.kind, &self.band, case, book, all, broker))
+    }
+
     ghost small = { λ g c lists made is_case fits. let limits = Limits-case c is_case in per_broker-fits_120_bits (A.weights g.kind) c lists limits (λ k d l. A.small_weights g.kind (get_or c.parts k d) (limits.loads k d l)) fits S.HARD (B.bounds g.band c) (B.small_bounds g.band c made.1 is_case) };
 
     ghost cold_pairs = { λ g c lists _ is_case fits. broker-cold_pairs S.HARD (A.weights g.kind) (B.bounds g.band c) c lists (Limits-case c is_case) fits };
 
     ghost idle_trades = { λ g c lists _ is_case fits. broker-idle_trades S.HARD (A.weights g.kind) (B.bounds g.band c) c lists (Limits-case c is_case) fits };
+
+    ghost rooms_decide = { λ g c lists _ is_case fits. let limits = Limits-case c is_case in broker-rooms_decide S.HARD (A.weights g.kind) (B.bounds g.band c) c lists limits fits (λ k d l. A.small_weights g.kind (get_or c.parts k d) (limits.loads k d l)) };
+
+    ghost small_weights = { λ g p h. A.small_weights g.kind p h };
 }

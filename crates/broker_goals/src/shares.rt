@@ -4,7 +4,7 @@ ghost use Rattle.goal_terms.specs.Bands.{units_of, low_of, rounded_up, even};
 ghost use Rattle.goal_terms.specs.Limits.{SmallCap, SmallBounds};
 ghost use Rattle.std.specs.Prelude.{◌≡◌, ◌+◌, ◌-◌, ◌*◌, ◌/◌, ◌<◌, ◌≤◌, ◌^◌};
 
-use crate::band::{Band, NewBand};
+use crate::band::{Band, Edges, NewBand};
 use crate::excess::unit_count;
 use crate::names::Balance;
 use load_model::{Broker, Case, Ratio};
@@ -31,7 +31,8 @@ impl<T: Balance> Even<T> {
     // The greatest count that is even enough.
     fn most(&self, all: u128) -> u128
         requires { all < 2 ^ 49 }
-        ensures { result ≡ rounded_up (all * self.now.ratio.num) (self.now.ratio.den * self.now.units) }
+        ensures value { result ≡ rounded_up (all * self.now.ratio.num) (self.now.ratio.den * self.now.units) }
+        ensures small { result ≤ 2 ^ 114 }
     {
         let shares = u128::from(self.ratio.den()) * self.units as u128;
         if shares == 0 {
@@ -60,12 +61,12 @@ impl<T: Balance> Band for Even<T> {
 
     ghost made_for = { λ b c. IsThreshold b.ratio (T.threshold c.options) × (b.units ≡ units_of c) };
 
-    fn above(&self, _case: &Case, all: u128, amount: u128, _broker: &Broker) -> u128 {
-        amount.saturating_sub(self.most(all))
-    }
-
-    fn below(&self, _case: &Case, all: u128, amount: u128, _broker: &Broker) -> u128 {
-        self.least(all).saturating_sub(amount)
+    fn edges(&self, _case: &Case, all: u128, _broker: &Broker) -> Edges {
+        Edges {
+            scale: 1,
+            upper: self.most(all),
+            lower: self.least(all),
+        }
     }
 
     ghost small_bounds = { λ _ c made _. even-small (T.threshold c.options) (units_of c) made.0.small };

@@ -8,7 +8,7 @@ ghost use Rattle.plan_terms.specs.Faults.{IsCase};
 ghost use Rattle.std.specs.List.{sum_by};
 ghost use Rattle.std.specs.Prelude.{◌≡◌, ◌-◌, ◌*◌, ◌<◌, ◌≤◌, ◌^◌, slice_index};
 
-use crate::band::{Band, NewBand};
+use crate::band::{Band, Edges, NewBand};
 use crate::names::Resource;
 use crate::shares::low_num;
 use load_model::{Broker, Case, Options, Ratio};
@@ -36,14 +36,13 @@ fn whole_cap_of(case: &Case, place: usize) -> u64
     whole
 }
 
-// A load, times the capacities of all brokers and a denominator.
-fn scaled(case: &Case, amount: u128, whole: u64, ratio: Ratio, place: usize) -> u128
-    requires amount { amount < 2 ^ 49 }
-    requires whole { whole ≡ whole_cap place case.now }
-    ensures { result ≡ amount * (whole * ratio.den) }
+// The capacities of all brokers, times a denominator.
+fn use_scale(case: &Case, whole: u64, ratio: Ratio, place: usize) -> u64
+    requires { whole ≡ whole_cap place case.now }
+    ensures { result ≡ whole * ratio.den }
 {
     let _brokers = case.brokers();
-    amount * (u128::from(whole) * u128::from(ratio.den()))
+    whole * u64::from(ratio.den())
 }
 
 // Part of what all brokers carry, times a capacity.
@@ -51,7 +50,8 @@ fn part_of(num: u32, all: u128, cap: u64) -> u128
     requires num { num ≤ 9999999 }
     requires all { all < 2 ^ 49 }
     requires cap { cap < 1099511627776 }
-    ensures { result ≡ num * all * cap }
+    ensures value { result ≡ num * all * cap }
+    ensures small { result ≤ 2 ^ 114 }
 {
     u128::from(num) * all * u128::from(cap)
 }
@@ -72,16 +72,14 @@ impl<R: Resource> Band for NearUse<R> {
 
     ghost made_for = { λ b c. IsThreshold b.ratio (ratio_at c.options.balance R.resource) × (b.whole ≡ whole_cap R.resource c) };
 
-    fn above(&self, case: &Case, all: u128, amount: u128, broker: &Broker) -> u128 {
+    fn edges(&self, case: &Case, all: u128, broker: &Broker) -> Edges {
         let place = R::place();
-        let most = part_of(self.ratio.num(), all, broker.cap[place]);
-        scaled(case, amount, self.whole, self.ratio, place).saturating_sub(most)
-    }
-
-    fn below(&self, case: &Case, all: u128, amount: u128, broker: &Broker) -> u128 {
-        let place = R::place();
-        let least = part_of(low_num(self.ratio), all, broker.cap[place]);
-        least.saturating_sub(scaled(case, amount, self.whole, self.ratio, place))
+        let cap = broker.cap[place];
+        Edges {
+            scale: use_scale(case, self.whole, self.ratio, place),
+            upper: part_of(self.ratio.num(), all, cap),
+            lower: part_of(low_num(self.ratio), all, cap),
+        }
     }
 
     ghost small_bounds = { λ _ c made is_case. near_use-small (ratio_at c.options.balance R.resource) R.resource c made.0.small (Limits-case c is_case) };
@@ -113,14 +111,13 @@ impl<R: Resource> Band for BelowUse<R> {
 
     ghost made_for = { λ b c. IsThreshold b.ratio (ratio_at c.options.balance R.resource) × (b.whole ≡ whole_cap R.resource c) };
 
-    fn above(&self, case: &Case, all: u128, amount: u128, broker: &Broker) -> u128 {
+    fn edges(&self, case: &Case, all: u128, broker: &Broker) -> Edges {
         let place = R::place();
-        let most = part_of(self.ratio.num(), all, broker.cap[place]);
-        scaled(case, amount, self.whole, self.ratio, place).saturating_sub(most)
-    }
-
-    fn below(&self, _case: &Case, _all: u128, _amount: u128, _broker: &Broker) -> u128 {
-        0
+        Edges {
+            scale: use_scale(case, self.whole, self.ratio, place),
+            upper: part_of(self.ratio.num(), all, broker.cap[place]),
+            lower: 0,
+        }
     }
 
     ghost small_bounds = { λ _ c made is_case. below_use-small (ratio_at c.options.balance R.resource) R.resource c made.0.small (Limits-case c is_case) };

@@ -1,1 +1,7 @@
 pub mod Candidates
+pub mod LookLemmas
+pub mod Firsts
+pub mod RowLemmas
+pub mod OrderLemmas
+pub mod Complete
+pub mod LeadLemmas

@@ -1,1 +1,6 @@
+pub mod CandidateList
+pub mod First
 pub mod Kinds
+pub mod Laws
+pub mod Looks
+pub mod Order

@@ -5,6 +5,7 @@ ghost use Rattle.std.specs.Prelude.{◌≡◌, IfOk, length, slice_index};
 use super::*;
 use load_model::{Assign, Broker, BrokerState, Case, LoadBook, Loads, Options, Part, Ratio, Topic};
 use move_actions::measure;
+use plan_terms::MinLeadersList;
 use std::alloc::Global;
 use std::test::Fail;
 
@@ -32,7 +33,7 @@ fn part(alloc: Global, disk: u64) -> Result<Part, Fail>
     })
 }
 
-fn options() -> Result<Options, Fail> {
+fn options(alloc: Global) -> Result<Options, Fail> {
     let limit = Ratio::new(80, 100).ok_or("no ratio")?;
     let one = Ratio::new(1, 1).ok_or("no ratio")?;
     Ok(Options {
@@ -43,6 +44,7 @@ fn options() -> Result<Options, Fail> {
         topic_balance: one,
         max_replicas: 10,
         leads_only: false,
+        min_leaders: MinLeadersList::new(Vec::new(alloc)),
     })
 }
 
@@ -50,7 +52,7 @@ fn case(alloc: Global, brokers: Vec<Broker>, disk: u64) -> Result<Case, Fail>
     ensures { IfOk result (λ c. length c.parts ≡ 1) }
 {
     let parts = vec![in alloc; part(alloc, disk)?]?;
-    Ok(Case::new(alloc, brokers, parts, options()?)?)
+    Ok(Case::new(alloc, brokers, parts, options(alloc)?)?)
 }
 
 fn led_by(alloc: Global, case: &Case, leader: u32) -> Result<Assign, Fail>

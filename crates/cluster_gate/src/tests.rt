@@ -4,6 +4,7 @@ ghost use Rattle.std.specs.Prelude.{◌≡◌, IfOk, length, slice_index};
 use super::*;
 use cc_base::Failed;
 use load_model::{Assign, Broker, BrokerState, Case, Loads, Options, Part, Ratio, Topic};
+use plan_terms::MinLeadersList;
 use std::alloc::Global;
 use std::test::Fail;
 
@@ -22,7 +23,7 @@ fn part(alloc: Global, number: u32) -> Result<Part, Fail>
     })
 }
 
-fn options() -> Result<Options, Fail> {
+fn options(alloc: Global) -> Result<Options, Fail> {
     let one = Ratio::new(1, 1).ok_or("no ratio")?;
     Ok(Options {
         limit: [one; 4],
@@ -32,6 +33,7 @@ fn options() -> Result<Options, Fail> {
         topic_balance: one,
         max_replicas: 10,
         leads_only: false,
+        min_leaders: MinLeadersList::new(Vec::new(alloc)),
     })
 }
 
@@ -49,7 +51,7 @@ fn case(alloc: Global) -> Result<Case, Fail>
         })?;
     }
     let parts = vec![in alloc; part(alloc, 0)?, part(alloc, 1)?]?;
-    Ok(Case::new(alloc, brokers, parts, options()?)?)
+    Ok(Case::new(alloc, brokers, parts, options(alloc)?)?)
 }
 
 fn lists(alloc: Global) -> Result<Assign, Fail>

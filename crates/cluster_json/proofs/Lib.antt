@@ -1,3 +1,5 @@
 pub mod Fails
 pub mod FileLemmas
+pub mod LeadersLemmas
+pub mod NamedLemmas
 pub mod PlaceLemmas

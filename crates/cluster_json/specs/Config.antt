@@ -7,8 +7,8 @@ use Rattle.plan_terms.specs.declared.cluster.Options.{Options}
 use Rattle.cluster_json.specs.Faults.{Read, wrong_shape, bad_config, ◌>>=◌}
 use Rattle.cluster_json.specs.Settings.{is_setting, ratio_setting, whole_setting}
 use Rattle.cluster_json.specs.declared.settings.RatioForm.TheVariants.{Any, FromOne, ToOne}
-use Rattle.cluster_json.specs.declared.config.Caps3.{Caps3}
-use Rattle.cluster_json.specs.declared.config.WindowRules.{WindowRules}
+use Rattle.plan_terms.specs.declared.settings.Caps.{Caps}
+use Rattle.plan_terms.specs.declared.settings.WindowRules.{WindowRules}
 use Rattle.cluster_json.specs.declared.config.Config.{Config}
 
 -- each member is a setting; they go by the bytes of their names
@@ -49,7 +49,7 @@ balances_of config =
     balance (codes "cpu.balance.threshold") 110 config ∷ balance (codes "network.inbound.balance.threshold") 110 config
     ∷ balance (codes "network.outbound.balance.threshold") 110 config ∷ balance (codes "disk.balance.threshold") 110 config ∷ []
 
--- the goals' thresholds
+-- the goals' thresholds; the least leaders are no setting
 unfoldable pub options_of : Option Data → Options
 options_of config = record {
   limit = limits_of config;
@@ -59,10 +59,11 @@ options_of config = record {
   topic_balance = balance (codes "topic.replica.count.balance.threshold") 300 config;
   max_replicas = whole_setting 0 1000000 (codes "max.replicas.per.broker") 10000 config;
   leads_only = false;
+  min_leaders = [];
 }
 
 -- how many movements there may be at a time
-unfoldable pub caps_of : Option Data → Caps3
+unfoldable pub caps_of : Option Data → Caps
 caps_of config = record {
   broker = whole_setting 1 10000 (codes "num.concurrent.partition.movements.per.broker") 10 config;
   cluster = whole_setting 1 10000 (codes "max.num.cluster.movements") 1250 config;

@@ -1,58 +1,63 @@
 -- What the bytes of a cluster file mean, or their first fault.
-use Rattle.std.specs.Prelude.{ℕ, Bool, ◌==◌, List, [], map, if◌then◌else◌, Option, Some, None, Ok, Err, codes}
+use Rattle.std.specs.Prelude.{ℕ, Bool, ◌==◌, ◌||◌, List, [], map, if◌then◌else◌, Option, Some, None, Ok, Err, codes}
 use Rattle.std.specs.Str.{is_utf8}
 use Rattle.serde_json.specs.Data.{Data, Num}
 use Rattle.serde_json.specs.Find.{as_number, as_u64}
 use Rattle.serde_json.specs.Read.{read}
 use Rattle.plan_terms.specs.Cluster.{Cluster, Lists}
-use Rattle.plan_terms.specs.Faults.{case_fault, lists_fault}
+use Rattle.plan_terms.specs.Faults.{cluster_fault, lists_fault}
 use Rattle.plan_terms.specs.Fraction.{Fraction}
 use Rattle.plan_terms.specs.declared.cluster.Broker.{Broker}
+use Rattle.plan_terms.specs.declared.cluster.MinLeaders.{MinLeaders}
+use Rattle.plan_terms.specs.declared.cluster.Options.{Options}
 use Rattle.plan_terms.specs.declared.faults.CaseFault.{CaseFault}
 use Rattle.cluster_json.specs.Brokers.{broker_at}
 use Rattle.cluster_json.specs.Capacities.{entries_at, all_equipped}
 use Rattle.cluster_json.specs.Config.{config_at}
 use Rattle.cluster_json.specs.Faults.{Read, not_json, wrong_shape, unsupported_version, no_case, ◌>>=◌}
+use Rattle.cluster_json.specs.Leaders.{min_leaders_at}
 use Rattle.cluster_json.specs.Partitions.{part_at}
 use Rattle.cluster_json.specs.Samples.{samples_at}
 use Rattle.cluster_json.specs.Shapes.{inside, object_at, all_at, required, optional}
-use Rattle.cluster_json.specs.declared.config.Caps3.{Caps3}
-use Rattle.cluster_json.specs.declared.config.WindowRules.{WindowRules}
+use Rattle.plan_terms.specs.declared.settings.Caps.{Caps}
+use Rattle.plan_terms.specs.declared.settings.WindowRules.{WindowRules}
 use Rattle.cluster_json.specs.declared.config.Config.{Config}
 use Rattle.cluster_json.specs.declared.partitions.FilePart.{FilePart}
-use Rattle.cluster_json.specs.declared.samples.FileSample.{FileSample}
+use Rattle.plan_terms.specs.declared.settings.Sample.{Sample}
 
 -- the members of a file
 pub record FileMembers : Type 0 where
   pub brokers : List Broker
   pub parts : List FilePart
   pub config : Config
-  pub samples : List FileSample
+  pub samples : List Sample
+  pub min_leaders : List MinLeaders
 
 -- what a file means
 pub record Meaning : Type 0 where
   pub cluster : Cluster
   pub lists : Lists
-  pub caps : Caps3
+  pub caps : Caps
   pub rules : WindowRules
   pub ratio : Fraction
   pub with_load : List Bool
-  pub samples : List FileSample
+  pub samples : List Sample
 
--- the number 1
-abbrev pub one : Option ℕ → Read (Unit {0})
-one None = Err unsupported_version
-one (Some n) = if n == 1 then Ok tt else Err unsupported_version
+-- the number 1 or 2
+abbrev pub known_version : Option ℕ → Read ℕ
+known_version None = Err unsupported_version
+known_version (Some n) = if (n == 1) || (n == 2) then Ok n else Err unsupported_version
 
--- a number, which is 1
-abbrev pub number_one : Option Num → Read (Unit {0})
-number_one None = Err (wrong_shape [])
-number_one (Some n) = one (as_u64 n)
+-- a number, which is 1 or 2
+abbrev pub version_number : Option Num → Read ℕ
+version_number None = Err (wrong_shape [])
+version_number (Some n) = known_version (as_u64 n)
 
-unfoldable pub version_at : Data → Read (Unit {0})
-version_at d = number_one (as_number d)
+unfoldable pub version_at : Data → Read ℕ
+version_at d = version_number (as_number d)
 
--- an object of `version`, `brokers`, `partitions`, and perhaps `brokerCapacities`, `config` and `samples`
+-- an object of `version`, `brokers`, `partitions`, and perhaps `brokerCapacities`, `config`, `samples` and, in version 2,
+-- `minTopicLeaders`
 unfoldable pub members_at : Data → Read FileMembers
 members_at d = do
   is ← object_at d
@@ -63,23 +68,28 @@ members_at d = do
   parts ← inside (codes "partitions") (required (all_at part_at)) d
   config ← inside (codes "config") config_at d
   samples ← inside (codes "samples") (optional [] (samples_at (map (λ p. p.part) parts))) d
-  Ok (record { brokers = brokers; parts = parts; config = config; samples = samples })
+  min_leaders ← min_leaders_at version d
+  Ok (record { brokers = brokers; parts = parts; config = config; samples = samples; min_leaders = min_leaders })
 
 -- no fault
 abbrev pub unless : Option CaseFault → Read (Unit {0})
 unless None = Ok tt
 unless (Some fault) = Err (no_case fault)
 
+-- the thresholds of the settings, with the least leaders
+abbrev pub options_with : Options → List MinLeaders → Options
+options_with options min_leaders = record options { min_leaders = min_leaders }
+
 abbrev pub cluster_of : FileMembers → Cluster
-cluster_of m = record { brokers = m.brokers; parts = map (λ p. p.part) m.parts; options = m.config.options }
+cluster_of m = record { brokers = m.brokers; parts = map (λ p. p.part) m.parts; options = options_with m.config.options m.min_leaders }
 
 abbrev pub lists_of : FileMembers → Lists
 lists_of m = map (λ p. p.replicas) m.parts
 
--- brokers and partitions within the limits and without repetition, and lists of brokers of the file
+-- brokers, partitions and least leaders within the limits and without repetition, and lists of brokers of the file
 unfoldable pub cluster_at : FileMembers → Read Meaning
 cluster_at m = do
-  case_is ← unless (case_fault m.brokers (map (λ p. p.part) m.parts))
+  case_is ← unless (cluster_fault m.brokers (map (λ p. p.part) m.parts) (options_with m.config.options m.min_leaders))
   lists_are ← unless (lists_fault (cluster_of m) (lists_of m))
   Ok (record {
     cluster = cluster_of m;

@@ -3,7 +3,9 @@ pub mod Capacities
 pub mod Config
 pub mod Faults
 pub mod File
+pub mod Leaders
 pub mod Loads
+pub mod Named
 pub mod Partitions
 pub mod Places
 pub mod Ranges

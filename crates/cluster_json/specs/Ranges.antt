@@ -4,10 +4,10 @@ use Rattle.std.specs.List.{All}
 use Rattle.plan_terms.specs.Belongs.{Belongs}
 use Rattle.plan_terms.specs.Fraction.{Fraction}
 use Rattle.plan_terms.specs.declared.cluster.Loads.{Loads}
-use Rattle.cluster_json.specs.declared.config.Caps3.{Caps3}
-use Rattle.cluster_json.specs.declared.config.WindowRules.{WindowRules}
+use Rattle.plan_terms.specs.declared.settings.Caps.{Caps}
+use Rattle.plan_terms.specs.declared.settings.WindowRules.{WindowRules}
 use Rattle.cluster_json.specs.declared.file.ClusterFile.{ClusterFile}
-use Rattle.cluster_json.specs.declared.samples.FileSample.{FileSample}
+use Rattle.plan_terms.specs.declared.settings.Sample.{Sample}
 
 -- values below 2^32, and a follower that sends nothing to clients
 pub record AreLoads (l : Loads) : Type 0 where
@@ -16,7 +16,7 @@ pub record AreLoads (l : Loads) : Type 0 where
   pub silent : slice_index l.follow 2 ≡ 0
 
 -- each cap is 1 to 10,000
-pub record AreCaps (c : Caps3) : Type 0 where
+pub record AreCaps (c : Caps) : Type 0 where
   pub some_broker : 1 ≤ c.broker
   pub few_broker : c.broker ≤ 10000
   pub some_cluster : 1 ≤ c.cluster
@@ -40,7 +40,7 @@ pub record IsShare (f : Fraction) : Type 0 where
   pub within : f.num ≤ f.den
 
 -- a sample of one of n partitions
-pub record IsSample (n : ℕ) (s : FileSample) : Type 0 where
+pub record IsSample (n : ℕ) (s : Sample) : Type 0 where
   pub known : s.part < n
   pub time : s.time < 2 ^ 53
   pub loads : AreLoads s.loads

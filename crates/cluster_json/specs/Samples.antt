@@ -6,7 +6,7 @@ use Rattle.cluster_json.specs.Faults.{Read, wrong_shape, ◌>>=◌}
 use Rattle.cluster_json.specs.Shapes.{inside, object_at, number_at, all_at, required}
 use Rattle.cluster_json.specs.Loads.{loads_at}
 use Rattle.cluster_json.specs.Partitions.{topic_at, id_at}
-use Rattle.cluster_json.specs.declared.samples.FileSample.{FileSample}
+use Rattle.plan_terms.specs.declared.settings.Sample.{Sample}
 
 -- the partition has this topic and number
 abbrev pub is_named : List ℕ → ℕ → Part → Bool
@@ -27,7 +27,7 @@ or_no_partition None = Err (wrong_shape [])
 or_no_partition (Some place) = Ok place
 
 -- an object of `topic`, `partition`, `time` and `load`, for a partition of the file
-unfoldable pub sample_at : List Part → Data → Read FileSample
+unfoldable pub sample_at : List Part → Data → Read Sample
 sample_at parts d = do
   is ← object_at d
   topic ← inside (codes "topic") (required topic_at) d
@@ -38,5 +38,5 @@ sample_at parts d = do
   Ok (record { part = part; time = time; loads = loads })
 
 -- the samples, in order
-abbrev pub samples_at : List Part → Data → Read (List FileSample)
+abbrev pub samples_at : List Part → Data → Read (List Sample)
 samples_at parts = all_at (sample_at parts)

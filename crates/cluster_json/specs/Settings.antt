@@ -1,10 +1,10 @@
 -- The settings of a file, by Cruise Control's names.
-use Rattle.std.specs.Prelude.{ℕ, ◌==◌, Bool, true, false, ◌&&◌, nat_le, nat_lt, List, [], ◌∷◌, length, bytes_eq, if◌then◌else◌, Option, Some, None, is_some, unwrap_or, codes, decimal, slice_index}
+use Rattle.std.specs.Prelude.{ℕ, Bool, true, false, ◌&&◌, nat_le, List, [], ◌∷◌, bytes_eq, if◌then◌else◌, Option, Some, None, is_some, unwrap_or, codes, decimal}
 use Rattle.std.specs.List.{list_any}
 use Rattle.std.specs.Option.{option_and_then}
 use Rattle.serde_json.specs.Data.{Data, unsigned, negative, float, null, boolean, number, string, array, object}
 use Rattle.serde_json.specs.Find.{get}
-use Rattle.plan_terms.specs.Digits.{number_of}
+use Rattle.plan_terms.specs.Digits.{whole_of}
 use Rattle.plan_terms.specs.Fraction.{Fraction, ratio_of}
 use Rattle.cluster_json.specs.declared.settings.Form.{Form}
 use Rattle.cluster_json.specs.declared.settings.Form.TheVariants.{InRatio, Whole}
@@ -56,10 +56,6 @@ setting_text null = None
 setting_text (boolean b) = None
 setting_text (array ds) = None
 setting_text (object ms) = None
-
--- a whole number in digits, without a sign and without a leading zero
-unfoldable pub whole_of : List ℕ → Option ℕ
-whole_of text = if nat_lt 1 (length text) && (slice_index text 0 == 48) then None else number_of 19 text
 
 -- the number passes the test
 abbrev pub such_that : {X : Type 0} → (X → Bool) → Option X → Option X

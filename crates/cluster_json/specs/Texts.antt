@@ -29,6 +29,7 @@ case_text (case.UnknownBroker place id) = with_number (with_number (codes "Unkno
 case_text (case.DuplicateReplica place id) = with_number (with_number (codes "DuplicateReplica") place) id
 case_text (case.EmptyReplicas place) = with_number (codes "EmptyReplicas") place
 case_text (case.OverLimit l) = codes "OverLimit " ++ limit_text l
+case_text (case.DuplicateMinLeaders place) = with_number (codes "DuplicateMinLeaders") place
 
 -- the name of a fault, a blank, and its path, name or number
 unfoldable pub fault_text : Fault → List ℕ

@@ -11,39 +11,15 @@ ghost use Rattle.cluster_json.specs.Shapes.{inside};
 use crate::FileRefusal;
 use crate::refusal::{in_member, wrong_shape};
 use crate::settings::{RatioForm, is_setting, ratio_setting, whole_setting};
-use plan_terms::{Memory, Options, Ratio};
+use plan_terms::{Caps, Memory, MinLeadersList, Options, Ratio, WindowRules};
 use serde_json::{Map, Value};
 use std::alloc::Global;
 
-/// How many movements there may be at a time, each 1 to 10,000.
-#[derive(Clone, Copy, Debug)]
-pub struct Caps3 {
-    /// Of the replicas that one broker takes, and of those that it gives.
-    pub broker: u32,
-    /// Of replicas in the cluster.
-    pub cluster: u32,
-    /// Of leaders.
-    pub leader: u32,
-}
-
-/// How samples are averaged over windows of time.
-#[derive(Clone, Copy, Debug)]
-pub struct WindowRules {
-    /// The width of a window, 1 to 86,400,000 milliseconds.
-    pub width: u64,
-    /// How many windows are kept, 1 to 100.
-    pub keep: u64,
-    /// How many samples a window is to have, 1 to 65,536.
-    pub least: u32,
-    /// How many windows of a partition are to have a value, 1 to 100.
-    pub need: u64,
-}
-
 /// What a file's configuration says.
-#[derive(Clone, Copy)]
+#[derive(Drop)]
 pub struct Config {
     pub options: Options,
-    pub caps: Caps3,
+    pub caps: Caps,
     pub rules: WindowRules,
     /// The share of partitions that have to have a load, at most 1.
     pub ratio: Ratio,
@@ -112,6 +88,7 @@ fn options_of(alloc: Global, config: Option<&Value>) -> Result<Options, Memory>
         topic_balance: balance(alloc, config, "topic.replica.count.balance.threshold", 300)?,
         max_replicas: most as u32,
         leads_only: false,
+        min_leaders: MinLeadersList::new(Vec::new(alloc)),
     })
 }
 
@@ -126,7 +103,7 @@ fn cap(alloc: Global, config: Option<&Value>, name: &str, default: u64) -> Resul
 }
 
 #[tactic(auto, unfolding(crate::specs::Config::caps_of))]
-fn caps_of(alloc: Global, config: Option<&Value>) -> Result<Caps3, Memory>
+fn caps_of(alloc: Global, config: Option<&Value>) -> Result<Caps, Memory>
     ensures value { IfOk result (λ caps. caps ≡ caps_of (option_map (λ v. view v.now) config.entry)) }
     ensures caps { IfOk result AreCaps }
 {
@@ -138,7 +115,7 @@ fn caps_of(alloc: Global, config: Option<&Value>) -> Result<Caps3, Memory>
     )?;
     let cluster = cap(alloc, config, "max.num.cluster.movements", 1250)?;
     let leader = cap(alloc, config, "num.concurrent.leader.movements", 1000)?;
-    Ok(Caps3 {
+    Ok(Caps {
         broker,
         cluster,
         leader,

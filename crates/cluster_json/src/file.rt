@@ -2,9 +2,9 @@
 ghost use Rattle.std.specs.Prelude.{◌≡◌, ◌≤◌, [], codes, map, option_map, length, slice_index, IfOk};
 ghost use Rattle.std.specs.List.{All};
 ghost use Rattle.plan_terms.specs.Belongs.{Belongs};
-ghost use Rattle.plan_terms.specs.Faults.{case_fault, lists_fault};
+ghost use Rattle.plan_terms.specs.Faults.{cluster_fault, lists_fault};
 ghost use Rattle.serde_json.specs.View.{view};
-ghost use Rattle.cluster_json.specs.File.{cluster_at, file_at, meaning_of, members_at, unless, version_at};
+ghost use Rattle.cluster_json.specs.File.{cluster_at, file_at, known_version, meaning_of, members_at, options_with, unless, version_at};
 ghost use Rattle.cluster_json.specs.Ranges.{AreCaps, AreLoads, AreRules, IsFile, IsSample, IsShare};
 ghost use Rattle.cluster_json.specs.Reading.{Gives};
 ghost use Rattle.cluster_json.specs.Shapes.{inside, required};
@@ -13,13 +13,14 @@ ghost use Rattle.cluster_json.specs.Views.{file_seen, members_seen, sample_seen}
 use crate::FileRefusal;
 use crate::brokers::brokers_in;
 use crate::capacities::{all_equipped, entries_in};
-use crate::config::{Caps3, Config, WindowRules, config_in};
+use crate::config::{Config, config_in};
+use crate::leaders::min_leaders_in;
 use crate::partitions::{FilePart, parts_in};
 use crate::refusal::{in_member, wrong_shape};
-use crate::samples::{FileSample, Placed, narrowed, samples_in};
+use crate::samples::{Placed, narrowed, samples_in};
 use crate::shape::check_object;
 use load_model::{Assign, Case, CaseFault};
-use plan_terms::{Broker, Memory, Part, Ratio};
+use plan_terms::{Broker, Caps, Memory, MinLeadersList, Options, Part, Ratio, Sample, WindowRules};
 use serde_json::Value;
 use std::alloc::Global;
 
@@ -30,14 +31,14 @@ pub struct ClusterFile {
     pub case: Case,
     /// The replica list of each partition.
     pub lists: Assign,
-    pub caps: Caps3,
+    pub caps: Caps,
     pub rules: WindowRules,
     /// The share of partitions that have to have a load, at most 1.
     pub ratio: Ratio,
     /// For each partition, whether the file gives its loads.
     pub with_load: Vec<bool>,
     /// The samples, in the order of the file.
-    pub samples: Vec<FileSample>,
+    pub samples: Vec<Sample>,
 }
 
 /// The members of a file.
@@ -47,6 +48,7 @@ pub struct FileMembers {
     pub parts: Vec<FilePart>,
     pub config: Config,
     pub samples: Vec<Placed>,
+    pub min_leaders: MinLeadersList,
 }
 
 /// The partitions, their lists, and whether the file gives their loads.
@@ -58,8 +60,8 @@ pub struct Columns {
 }
 
 #[tactic(auto, unfolding(crate::specs::File::version_at))]
-fn check_version(alloc: Global, value: Option<&Value>) -> Result<(), FileRefusal>
-    ensures { Gives (λ u. u) result (required version_at (option_map (λ v. view v.now) value.entry)) }
+fn read_version(alloc: Global, value: Option<&Value>) -> Result<u64, FileRefusal>
+    ensures { Gives (λ n. n) result (required version_at (option_map (λ v. view v.now) value.entry)) }
 {
     let Some(value) = value else {
         return Err(wrong_shape(alloc));
@@ -68,17 +70,17 @@ fn check_version(alloc: Global, value: Option<&Value>) -> Result<(), FileRefusal
         return Err(wrong_shape(alloc));
     };
     match number.as_u64() {
-        Some(1) => Ok(()),
+        Some(version) if version == 1 || version == 2 => Ok(version),
         _ => Err(FileRefusal::UnsupportedVersion),
     }
 }
 
 #[tactic(auto, using(crate::proofs::Fails::fails_under))]
-fn version_in(alloc: Global, object: &Value) -> Result<(), FileRefusal>
-    ensures { Gives (λ u. u) result (inside (codes "version") (required version_at) (view object.now)) }
+fn version_in(alloc: Global, object: &Value) -> Result<u64, FileRefusal>
+    ensures { Gives (λ n. n) result (inside (codes "version") (required version_at) (view object.now)) }
 {
-    match check_version(alloc, object.get("version")) {
-        Ok(()) => Ok(()),
+    match read_version(alloc, object.get("version")) {
+        Ok(version) => Ok(version),
         Err(e) => Err(in_member(alloc, "version", e)),
     }
 }
@@ -93,18 +95,20 @@ fn read_members(alloc: Global, value: &Value) -> Result<FileMembers, FileRefusal
     ensures samples { IfOk result (λ m. All (λ s. IsSample (length m.parts.items) (sample_seen s)) m.samples.items) }
 {
     check_object(alloc, value)?;
-    version_in(alloc, value)?;
+    let version = version_in(alloc, value)?;
     let named = brokers_in(alloc, value)?;
     let entries = entries_in(alloc, value)?;
     let brokers = all_equipped(alloc, &entries, named)?;
     let parts = parts_in(alloc, value)?;
     let config = config_in(alloc, value)?;
     let samples = samples_in(alloc, &parts, value)?;
+    let min_leaders = min_leaders_in(alloc, version, value)?;
     Ok(FileMembers {
         brokers,
         parts,
         config,
         samples,
+        min_leaders,
     })
 }
 
@@ -129,18 +133,26 @@ fn split(alloc: Global, file_parts: Vec<FilePart>) -> Result<Columns, Memory>
     })
 }
 
+// The thresholds that the configuration gives, with the least leaders of the file.
+fn options_with(mut options: Options, min_leaders: MinLeadersList) -> Options
+    ensures { result ≡ options_with options min_leaders }
+{
+    options.min_leaders = min_leaders;
+    options
+}
+
 // The case of a file's brokers and partitions.
 fn case_of(
     alloc: Global,
     brokers: Vec<Broker>,
     parts: Vec<Part>,
-    config: &Config,
+    options: Options,
 ) -> Result<Case, FileRefusal>
     requires { All (λ p. slice_index p.loads.follow 2 ≡ 0) parts.items }
-    ensures means { Gives (λ c. tt) result (unless (case_fault brokers.items parts.items)) }
-    ensures case { IfOk result (λ c. c ≡ record { brokers = brokers.items; parts = parts.items; options = config.now.options }) }
+    ensures means { Gives (λ c. tt) result (unless (cluster_fault brokers.items parts.items options)) }
+    ensures case { IfOk result (λ c. c ≡ record { brokers = brokers.items; parts = parts.items; options = options }) }
 {
-    match Case::new(alloc, brokers, parts, config.options) {
+    match Case::new(alloc, brokers, parts, options) {
         Ok(case) => Ok(case),
         Err(CaseFault::Memory) => Err(FileRefusal::Memory),
         Err(fault) => Err(FileRefusal::Case(fault)),
@@ -177,17 +189,25 @@ fn load(alloc: Global, members: FileMembers) -> Result<ClusterFile, FileRefusal>
         parts,
         config,
         samples,
+        min_leaders,
     } = members;
+    let Config {
+        options,
+        caps,
+        rules,
+        ratio,
+    } = config;
     let columns = split(alloc, parts)?;
-    let case = case_of(alloc, brokers, columns.parts, &config)?;
+    let options = options_with(options, min_leaders);
+    let case = case_of(alloc, brokers, columns.parts, options)?;
     let lists = assignment_of(alloc, &case, columns.lists)?;
     let samples = narrowed(alloc, case.parts().len(), samples)?;
     Ok(ClusterFile {
         case,
         lists,
-        caps: config.caps,
-        rules: config.rules,
-        ratio: config.ratio,
+        caps,
+        rules,
+        ratio,
         with_load: columns.with_load,
         samples,
     })
@@ -204,7 +224,7 @@ fn read_file(alloc: Global, value: &Value) -> Result<ClusterFile, FileRefusal>
 }
 
 /// Reads a cluster file, or tells its first fault: bytes that are no JSON (RFC 8259); the version; then the members in the
-/// order `brokers`, `brokerCapacities`, `partitions`, `config` and `samples`, lists by index and objects in the order of
+/// order `brokers`, `brokerCapacities`, `partitions`, `config`, `samples` and, in version 2, `minTopicLeaders`, lists by index and objects in the order of
 /// the documented table; and last what makes no cluster.
 pub fn read_cluster(alloc: Global, bytes: &[u8]) -> Result<ClusterFile, FileRefusal>
     ensures means { Gives file_seen result (meaning_of bytes.now) }

@@ -5,7 +5,9 @@ mod brokers;
 mod capacities;
 mod config;
 mod file;
+mod leaders;
 mod loads;
+mod named;
 mod partitions;
 mod places;
 mod refusal;
@@ -14,10 +16,10 @@ mod settings;
 mod shape;
 mod text;
 
-pub use config::{Caps3, WindowRules};
 pub use file::{ClusterFile, read_cluster};
+pub use named::{NamedSample, read_named_sample};
+pub use plan_terms::{Caps, Sample, WindowRules};
 pub use refusal::FileRefusal;
-pub use samples::FileSample;
 
 #[cfg(test)]
 mod tests;

@@ -50,16 +50,26 @@ fn is_topic(text: &str) -> bool
     }
 }
 
+/// A topic's name.
 #[tactic(auto, unfolding(crate::specs::Partitions::topic_at))]
+pub fn topic_name(alloc: Global, value: &Value) -> Result<&str, FileRefusal>
+    ensures { Gives (λ s. s.now) result (topic_at (view value.now)) }
+{
+    match read_text(alloc, value) {
+        Ok(name) if is_topic(name) => Ok(name),
+        Ok(_) => Err(FileRefusal::BadTopic(String::new(alloc))),
+        Err(e) => Err(e),
+    }
+}
+
 fn read_topic(alloc: Global, value: Option<&Value>) -> Result<Topic, FileRefusal>
     ensures { Gives (λ t. t) result (required topic_at (option_map (λ v. view v.now) value.entry)) }
 {
     let Some(value) = value else {
         return Err(wrong_shape(alloc));
     };
-    match read_text(alloc, value) {
-        Ok(name) if is_topic(name) => Ok(Topic::new(String::from_str(alloc, name)?)),
-        Ok(_) => Err(FileRefusal::BadTopic(String::new(alloc))),
+    match topic_name(alloc, value) {
+        Ok(name) => Ok(Topic::new(String::from_str(alloc, name)?)),
         Err(e) => Err(e),
     }
 }

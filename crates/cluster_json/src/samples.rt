@@ -16,19 +16,9 @@ use crate::partitions::{FilePart, topic_in};
 use crate::places::Places;
 use crate::refusal::{in_item, in_member, wrong_shape};
 use crate::shape::{check_object, number_in, read_list};
-use plan_terms::{Loads, Memory};
+use plan_terms::{Loads, Memory, Sample};
 use serde_json::Value;
 use std::alloc::Global;
-
-/// A sample of a partition's loads.
-#[derive(Clone, Copy, Debug)]
-pub struct FileSample {
-    /// The partition's place in the file, from 0.
-    pub part: u32,
-    /// When it was taken, in milliseconds, below 2^53.
-    pub time: u64,
-    pub loads: Loads,
-}
 
 /// A sample whose partition may lie anywhere, until the number of partitions is known to be within its limit.
 #[derive(Clone, Copy)]
@@ -49,7 +39,7 @@ fn required_loads(alloc: Global, value: Option<&Value>) -> Result<Loads, FileRef
 }
 
 #[tactic(auto, using(crate::proofs::Fails::fails_under))]
-fn loads_in(alloc: Global, object: &Value) -> Result<Loads, FileRefusal>
+pub fn loads_in(alloc: Global, object: &Value) -> Result<Loads, FileRefusal>
     ensures means { Gives (λ l. l) result (inside (codes "load") (required loads_at) (view object.now)) }
     ensures loads { IfOk result AreLoads }
 {
@@ -161,14 +151,14 @@ pub fn samples_in(
 }
 
 /// The samples of partitions whose number is within its limit.
-pub fn narrowed(alloc: Global, parts: usize, placed: Vec<Placed>) -> Result<Vec<FileSample>, Memory>
+pub fn narrowed(alloc: Global, parts: usize, placed: Vec<Placed>) -> Result<Vec<Sample>, Memory>
     requires few { parts ≤ 10000 }
     requires known { All (λ s. IsSample parts (sample_seen s)) placed.items }
     ensures { IfOk result (λ v. v.items ≡ map sample_seen placed.items) }
 {
     let mut samples = Vec::new(alloc);
     for sample in placed.as_slice() {
-        samples.push(FileSample {
+        samples.push(Sample {
             part: sample.place as u32,
             time: sample.time,
             loads: sample.loads,

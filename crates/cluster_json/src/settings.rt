@@ -2,9 +2,9 @@
 ghost use Rattle.std.specs.Prelude.{◌≡◌, ◌≤◌, true, bytes_eq, option_map, string_bytes, IfOk, IfSome};
 ghost use Rattle.std.specs.List.{list_any};
 ghost use Rattle.serde_json.specs.View.{view};
-ghost use Rattle.cluster_json.specs.Settings.{among, balance_thresholds, capacity_thresholds, fits_form, form_of, has_form, is_setting, passes, range_of, ratio_in, ratio_setting, setting_text, such_that, told, whole_of, whole_setting, whole_within};
+ghost use Rattle.cluster_json.specs.Settings.{among, balance_thresholds, capacity_thresholds, fits_form, form_of, has_form, is_setting, passes, range_of, ratio_in, ratio_setting, setting_text, such_that, told, whole_setting, whole_within};
 
-use plan_terms::{Memory, Ratio, read_digits};
+use plan_terms::{Memory, Ratio, read_whole};
 use serde_json::Value;
 use std::alloc::Global;
 
@@ -121,19 +121,6 @@ fn read_ratio(form: RatioForm, text: &str) -> Option<Ratio>
     match Ratio::read(text) {
         Some(ratio) if passes(form, ratio) => Some(ratio),
         _ => None,
-    }
-}
-
-// A whole number in digits, without a sign and without a leading zero.
-#[tactic(auto, unfolding(crate::specs::Settings::whole_of))]
-fn read_whole(text: &str) -> Option<u64>
-    ensures { result ≡ whole_of text.now }
-{
-    let is_long = text.len() > 1;
-    if is_long && text.as_bytes()[0] == b'0' {
-        None
-    } else {
-        read_digits(text, 19)
     }
 }
 

@@ -65,6 +65,11 @@ const CONFIG: (&str, &str) = (
     "}",
 );
 
+const FLOORS: (&str, &str) = (
+    "{\"version\":2,\"brokers\":[{\"id\":0}],\"partitions\":[{\"topic\":\"t\",\"partition\":0,\"replicas\":[0]}],\"minTopicLeaders\":",
+    "}",
+);
+
 #[test]
 fn tells_the_first_fault_of_a_file(rt: HostRuntime) -> Result<(), Fail> {
     let rows = [
@@ -381,6 +386,45 @@ fn reads_samples(rt: HostRuntime) -> Result<(), Fail> {
 }
 
 #[test]
+fn reads_least_leaders(rt: HostRuntime) -> Result<(), Fail> {
+    let rows = [
+        ("{}", "WrongShape /minTopicLeaders"),
+        ("[5]", "WrongShape /minTopicLeaders/0"),
+        ("[{\"leaders\":0}]", "WrongShape /minTopicLeaders/0/topic"),
+        (
+            "[{\"topic\":\".\",\"leaders\":1}]",
+            "BadTopic /minTopicLeaders/0/topic",
+        ),
+        (
+            "[{\"topic\":\"t\"}]",
+            "WrongShape /minTopicLeaders/0/leaders",
+        ),
+        (
+            "[{\"topic\":\"t\",\"leaders\":0}]",
+            "BadNumber /minTopicLeaders/0/leaders",
+        ),
+        (
+            "[{\"topic\":\"t\",\"leaders\":10001}]",
+            "BadNumber /minTopicLeaders/0/leaders",
+        ),
+        (
+            "[{\"topic\":\"t\",\"leaders\":1},{\"topic\":\"u\",\"leaders\":1},{\"topic\":\"t\"}]",
+            "WrongShape /minTopicLeaders/2/topic",
+        ),
+        (
+            "[{\"topic\":\"gone\",\"leaders\":10000},{\"topic\":\"t\",\"leaders\":1}]",
+            "ok",
+        ),
+        ("[]", "ok"),
+        ("5,\"version\":1", "ok"),
+    ];
+    for (middle, expected) in rows {
+        expect(&rt, FLOORS, middle, expected)?;
+    }
+    Ok(())
+}
+
+#[test]
 fn reads_settings(rt: HostRuntime) -> Result<(), Fail> {
     let rows = [
         ("{\"cpu.capacity.threshold\":\"0.80\"}", "ok"),
@@ -532,6 +576,21 @@ fn gives_each_member(rt: HostRuntime) -> Result<(), Fail> {
     assert_eq!(rt; loads(&file, 0), ([1, 2, 3, 4], [5, 6, 0, 8]));
     assert_eq!(rt; loads(&file, 1), ([0; 4], [0; 4]));
     assert_eq!(rt; file.with_load.as_slice(), [true, false].as_slice());
+    Ok(())
+}
+
+#[test]
+fn gives_least_leaders(rt: HostRuntime) -> Result<(), Fail> {
+    let alloc = rt.alloc();
+    let (before, behind) = FLOORS;
+    let text = format!(in alloc; "{before}[{{\"topic\":\"t\",\"leaders\":3}}]{behind}")?;
+    let file = read_cluster(alloc, text.as_bytes())?;
+    match file.case.options().min_leaders.as_slice() {
+        [floor] => {
+            assert_eq!(rt; (floor.topic.as_str(), floor.leaders), ("t", 3));
+        }
+        _ => assert!(rt; false),
+    }
     Ok(())
 }
 

@@ -58,6 +58,7 @@ fn case_text(alloc: Global, fault: CaseFault) -> Result<String, AllocError>
         ),
         CaseFault::EmptyReplicas(place) => with_number(alloc, "EmptyReplicas", place),
         CaseFault::OverLimit(limit) => over_limit(alloc, limit_text(limit)),
+        CaseFault::DuplicateMinLeaders(place) => with_number(alloc, "DuplicateMinLeaders", place),
     }
 }
 

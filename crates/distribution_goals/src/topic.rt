@@ -3,8 +3,9 @@ ghost use Rattle.goal_terms.specs.Bands.{units_of, even};
 ghost use Rattle.goal_terms.specs.Heats.{heat_at_id};
 ghost use Rattle.goal_terms.specs.Limits.{SmallLoads, SmallWeights};
 ghost use Rattle.goal_terms.specs.PerBroker.{id_at, unit_brokers, broker_excess, per_broker};
-ghost use Rattle.goal_terms.specs.PerTopic.{topic_excesses, per_topic, first_topic, second_topic, topic_heat};
+ghost use Rattle.goal_terms.specs.PerTopic.{topic_excesses, per_topic, first_topic, replica_rule, second_topic, topic_heat};
 ghost use Rattle.goal_terms.specs.Quantity.{weight_of, quantity, topic_weights};
+ghost use Rattle.goal_terms.specs.Rooms.{free};
 ghost use Rattle.goal_terms.specs.Sides.{excess_with};
 ghost use Rattle.load_model.specs.Places.{topic_at};
 ghost use Rattle.plan_terms.specs.Belongs.{IsBookOf};
@@ -16,11 +17,11 @@ ghost use Rattle.std.specs.List.{list_any};
 ghost use Rattle.std.specs.Prelude.{◌≡◌, ◌+◌, ◌*◌, ◌<◌, ◌≤◌, ◌^◌, ◌↔◌, ◌++◌, ◌∷◌, [], true, false, None, IfOk, IsTrue, OnOk, ℕ, bytes_eq, get_or, length, map, nat_lt, if◌then◌else◌};
 
 use broker_goals::{
-    Amount, Balance, Band, Even, NewBand, amount_at, excess_at_place, sides_of, total_of,
-    unit_count, unit_excess, unit_place,
+    Amount, Balance, Band, Even, NewBand, amount_at, excess_at_place, first_topic_place,
+    second_topic_place, sides_of, topics_of, total_of, unit_count, unit_excess, unit_place,
 };
 use load_model::{Case, LoadBook, Memory, Options, Part, Ratio, Topic};
-use move_actions::{Goal, Heat};
+use move_actions::{Goal, Heat, Room};
 use plan_terms::Action;
 use std::alloc::Global;
 
@@ -50,6 +51,7 @@ impl<'t> Amount for TopicReplicas<'t> {
 
     ghost made_for = { λ q c. (q.place < length (topics c.parts)) × (topic_at c.parts q.place ≡ q.name.now) };
 
+    #[tactic(auto, using(plan_terms::proofs::SameLemmas::brokers_same, plan_terms::proofs::SameLemmas::topics_same))]
     fn amount(&self, _case: &Case, book: &LoadBook, broker: usize) -> u128 {
         u128::from(book.topic_count(self.place, broker))
     }
@@ -67,38 +69,6 @@ impl<'t> Amount for TopicReplicas<'t> {
 pub struct TopicReplicaDistributionGoal {
     band: Even<TopicBalance>,
     topics: Vec<Topic>,
-}
-
-fn has_topic(found: &[Topic], topic: &Topic) -> bool
-    ensures { result ≡ list_any (bytes_eq topic.now) found.now }
-{
-    for known in found {
-        if topic.as_str() == known.as_str() {
-            return true;
-        }
-    }
-    false
-}
-
-// Adds a topic that isn't there yet.
-fn push_new(alloc: Global, found: &mut Vec<Topic>, topic: &Topic) -> Result<(), Memory>
-    ensures { OnOk result (found.new.items ≡ if list_any (bytes_eq topic.now) found.old.items then found.old.items else found.old.items ++ topic.now ∷ []) }
-{
-    if !has_topic(found.as_slice(), topic) {
-        found.push(topic.copy(alloc)?)?;
-    }
-    Ok(())
-}
-
-// The topics, in the order of their first partitions.
-fn topics_of(alloc: Global, parts: &[Part]) -> Result<Vec<Topic>, Memory>
-    ensures { IfOk result (λ v. v.items ≡ topics parts.now) }
-{
-    let mut found = Vec::new(alloc);
-    for part in parts {
-        push_new(alloc, &mut found, &part.topic)?;
-    }
-    Ok(found)
 }
 
 impl TopicReplicaDistributionGoal {
@@ -144,37 +114,6 @@ fn topic_accepts(
     sides.giver_after <= sides.giver && sides.taker_after <= sides.taker
 }
 
-// The place of the topic of the first partition that an action touches.
-fn first_of(case: &Case, book: &LoadBook, action: Action) -> usize
-    requires belongs { IsBookOf case.now book.now }
-    requires applies { IsTrue (fits book.now.lists action) }
-    ensures within { result < length (topics case.now.parts) }
-    ensures named { topic_at case.now.parts result ≡ first_topic case.now.parts action }
-{
-    let _lists = book.lists();
-    match action {
-        Action::Move { part, .. } => case.topic(part as usize),
-        Action::Lead { part, .. } => case.topic(part as usize),
-        Action::Swap { part, .. } => case.topic(part as usize),
-    }
-}
-
-// The place of the topic of the second of them, or of the only one.
-fn second_of(case: &Case, book: &LoadBook, action: Action) -> usize
-    requires belongs { IsBookOf case.now book.now }
-    requires applies { IsTrue (fits book.now.lists action) }
-    ensures within { result < length (topics case.now.parts) }
-    ensures named { topic_at case.now.parts result ≡ second_topic case.now.parts action }
-    ensures only { (t : ℕ) → t < length (topics case.now.parts) → topic_at case.now.parts t ≡ second_topic case.now.parts action → t ≡ result }
-{
-    let _lists = book.lists();
-    match action {
-        Action::Move { part, .. } => case.topic(part as usize),
-        Action::Lead { part, .. } => case.topic(part as usize),
-        Action::Swap { other, .. } => case.topic(other as usize),
-    }
-}
-
 // Whether the broker at a place has an excess for one topic.
 fn is_uneven(
     kind: &TopicReplicas<'_>,
@@ -198,13 +137,15 @@ impl Goal for TopicReplicaDistributionGoal {
     ghost use Rattle.goal_terms.proofs.CaseLemmas.{Limits-case};
     ghost use Rattle.goal_terms.proofs.TopicGoalLemmas.{topic-fits_120_bits, topic-cold_pairs};
 
-    ghost meaning = { λ _ c. per_topic false (even c.options.topic_balance (units_of c)) c };
+    ghost meaning = { λ _ c. per_topic false (replica_rule (even c.options.topic_balance (units_of c))) c };
 
     ghost made_for = { λ g c. ⟦<Even<TopicBalance> as Band>⟧.made_for g.band c × (g.topics.items ≡ topics c.parts) };
 
-    ghost heat_at = { λ _ c lists k. topic_heat (topics c.parts) (even c.options.topic_balance (units_of c)) c lists k };
+    ghost heat_at = { λ _ c lists k. topic_heat (topics c.parts) (replica_rule (even c.options.topic_balance (units_of c))) c lists k };
 
     ghost weighs = { λ _. None };
+
+    ghost room_at = { λ _ _ _ _. free };
 
     fn is_hard(&self, _case: &Case) -> bool {
         false
@@ -230,16 +171,16 @@ impl Goal for TopicReplicaDistributionGoal {
 
     fn accepts(&self, case: &Case, book: &LoadBook, action: Action) -> bool {
         let _brokers = case.brokers();
-        let first = self.replicas(first_of(case, book, action));
-        let second = self.replicas(second_of(case, book, action));
+        let first = self.replicas(first_topic_place(case, book, action));
+        let second = self.replicas(second_topic_place(case, book, action));
         topic_accepts(&first, &self.band, case, book, action)
             && topic_accepts(&second, &self.band, case, book, action)
     }
 
     fn lessens(&self, case: &Case, book: &LoadBook, action: Action) -> bool {
         let _brokers = case.brokers();
-        let first = first_of(case, book, action);
-        let second = second_of(case, book, action);
+        let first = first_topic_place(case, book, action);
+        let second = second_topic_place(case, book, action);
         let one = sides_of(&self.replicas(first), &self.band, case, book, action);
         if first == second {
             return one.giver_after + one.taker_after < one.giver + one.taker;
@@ -262,9 +203,21 @@ impl Goal for TopicReplicaDistributionGoal {
         None
     }
 
+    fn whole(&self, _case: &Case, _book: &LoadBook) -> Option<u128> {
+        None
+    }
+
+    fn room(&self, _case: &Case, _book: &LoadBook, _all: u128, _broker: usize) -> Option<Room> {
+        None
+    }
+
     ghost small = { λ _ c lists made is_case fits. topic-fits_120_bits false c.options.topic_balance c lists made.0.0.small (Limits-case c is_case) fits };
 
-    ghost cold_pairs = { λ _ c lists _ is_case fits. topic-cold_pairs false (even c.options.topic_balance (units_of c)) c lists (Limits-case c is_case) fits };
+    ghost cold_pairs = { λ _ c lists _ is_case fits. topic-cold_pairs false (replica_rule (even c.options.topic_balance (units_of c))) c lists (Limits-case c is_case) fits };
 
     ghost idle_trades = { λ _ _ _ _ _ _. tt };
+
+    ghost rooms_decide = { λ _ _ _ _ _ _. tt };
+
+    ghost small_weights = { λ _ _ _. tt };
 }

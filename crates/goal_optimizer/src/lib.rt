@@ -5,4 +5,3 @@ mod optimiser;
 mod turn;
 
 pub use optimiser::{PlanFault, optimise};
-pub use turn::take_turn;

@@ -14,17 +14,21 @@ use Rattle.goal_terms.specs.Goals.{ratio_at}
 use Rattle.goal_terms.specs.Limits.{SmallLoads, SmallWeights, SmallBounds}
 use Rattle.goal_terms.specs.Pairs.{ColdPairs, IdleTrades}
 use Rattle.goal_terms.specs.Partitions.{demoted_first, lost_members}
+use Rattle.goal_terms.specs.PerTopic.{replica_rule}
 use Rattle.goal_terms.specs.PerBroker.{Bounds, per_broker}
 use Rattle.goal_terms.specs.Quantity.{Weights, replica_weights, leader_weights, load_weights, potential_out_weights, leader_in_weights}
 use Rattle.goal_terms.proofs.BandLemmas.{at_most-small, within_capacity-small, even-small, near_use-small, below_use-small}
 use Rattle.goal_terms.proofs.BoundLemmas.{per_broker-fits_120_bits, replica-small, leader-small, load-small, potential_out-small, leader_in-small}
 use Rattle.goal_terms.proofs.CaseLemmas.{Limits-case}
+use Rattle.goal_terms.proofs.LeastLemmas.{least-small, least-cold_pairs}
 use Rattle.goal_terms.proofs.PairLemmas.{broker-cold_pairs, broker-idle_trades}
+use Rattle.goal_terms.proofs.RoomLemmas.{broker-rooms_decide}
+use Rattle.goal_terms.specs.Rooms.{RoomsDecide, broker_room}
 use Rattle.goal_terms.proofs.PartitionGoals.{demoted_first-le, lost_members-le}
 use Rattle.goal_terms.proofs.PartitionHeat.{partition-cold_pairs}
 use Rattle.goal_terms.proofs.TopicGoalLemmas.{topic-fits_120_bits, topic-cold_pairs}
 use Rattle.goal_set.specs.Kinds.{meaning_of}
-use Rattle.goal_set.specs.AnyMeaning.{any_heat, any_made, any_meaning, any_weights}
+use Rattle.goal_set.specs.AnyMeaning.{any_heat, any_room, any_made, any_meaning, any_weights}
 use Rattle.goal_set.specs.declared.any.AnyGoal.{AnyGoal}
 use Rattle.goal_set.specs.declared.any.AnyGoal.TheVariants as any
 use Rattle.goal_set.specs.declared.kinds.GoalKind.{GoalKind}
@@ -62,6 +66,7 @@ partition-small hard f c lists within is_case fits =
 pub any-small : (g : AnyGoal) (c : Cluster) (lists : Lists) → any_made g c → IsCase c → Belongs c lists → measure (any_meaning g c) lists < 2 ^ 120
 any-small (any.Evacuation g) c lists made is_case fits = partition-small true (lost_members c) c lists (lost_members-le c) is_case fits
 any-small (any.RackAware g) c lists made is_case fits = partition-small true (rack_excess c) c lists (rack_excess-le c) is_case fits
+any-small (any.MinTopicLeadersPerBroker g) c lists made is_case fits = least-small c lists made.small (Limits-case c is_case)
 any-small (any.ReplicaCapacity g) c lists made is_case fits = broker-small true replica_weights (at_most c.options.max_replicas) c lists replicas (at_most-small c.options.max_replicas) is_case fits
 any-small (any.DiskCapacity g) c lists made is_case fits = broker-small true (load_weights 3) (within_capacity (ratio_at c.options.limit 3) 3) c lists (loads 3) (within_capacity-small (ratio_at c.options.limit 3) 3 made.1.small) is_case fits
 any-small (any.NetworkInboundCapacity g) c lists made is_case fits = broker-small true (load_weights 1) (within_capacity (ratio_at c.options.limit 1) 1) c lists (loads 1) (within_capacity-small (ratio_at c.options.limit 1) 1 made.1.small) is_case fits
@@ -82,6 +87,7 @@ any-small (any.LeaderBytesInDistribution g) c lists made is_case fits = broker-s
 pub kind-cold_pairs : (k : GoalKind) (c : Cluster) (lists : Lists) → IsCase c → Belongs c lists → ColdPairs (meaning_of k c) (any_heat k c lists) lists
 kind-cold_pairs kind.Evacuation c lists is_case fits = partition-cold_pairs (lost_members c) true c lists fits
 kind-cold_pairs kind.RackAware c lists is_case fits = partition-cold_pairs (rack_excess c) true c lists fits
+kind-cold_pairs kind.MinTopicLeadersPerBroker c lists is_case fits = least-cold_pairs c lists (Limits-case c is_case) fits
 kind-cold_pairs kind.ReplicaCapacity c lists is_case fits = broker-cold_pairs true replica_weights (at_most c.options.max_replicas) c lists (Limits-case c is_case) fits
 kind-cold_pairs kind.DiskCapacity c lists is_case fits = broker-cold_pairs true (load_weights 3) (within_capacity (ratio_at c.options.limit 3) 3) c lists (Limits-case c is_case) fits
 kind-cold_pairs kind.NetworkInboundCapacity c lists is_case fits = broker-cold_pairs true (load_weights 1) (within_capacity (ratio_at c.options.limit 1) 1) c lists (Limits-case c is_case) fits
@@ -94,7 +100,7 @@ kind-cold_pairs kind.DiskUsageDistribution c lists is_case fits = broker-cold_pa
 kind-cold_pairs kind.NetworkInboundUsageDistribution c lists is_case fits = broker-cold_pairs false (load_weights 1) (near_use (ratio_at c.options.balance 1) 1 (whole_cap 1 c)) c lists (Limits-case c is_case) fits
 kind-cold_pairs kind.NetworkOutboundUsageDistribution c lists is_case fits = broker-cold_pairs false (load_weights 2) (near_use (ratio_at c.options.balance 2) 2 (whole_cap 2 c)) c lists (Limits-case c is_case) fits
 kind-cold_pairs kind.CpuUsageDistribution c lists is_case fits = broker-cold_pairs false (load_weights 0) (near_use (ratio_at c.options.balance 0) 0 (whole_cap 0 c)) c lists (Limits-case c is_case) fits
-kind-cold_pairs kind.TopicReplicaDistribution c lists is_case fits = topic-cold_pairs false (even c.options.topic_balance (units_of c)) c lists (Limits-case c is_case) fits
+kind-cold_pairs kind.TopicReplicaDistribution c lists is_case fits = topic-cold_pairs false (replica_rule (even c.options.topic_balance (units_of c))) c lists (Limits-case c is_case) fits
 kind-cold_pairs kind.LeaderReplicaDistribution c lists is_case fits = broker-cold_pairs false leader_weights (even c.options.leader_balance (units_of c)) c lists (Limits-case c is_case) fits
 kind-cold_pairs kind.LeaderBytesInDistribution c lists is_case fits = broker-cold_pairs false leader_in_weights (below_use (ratio_at c.options.balance 1) 1 (whole_cap 1 c)) c lists (Limits-case c is_case) fits
 
@@ -102,6 +108,7 @@ kind-cold_pairs kind.LeaderBytesInDistribution c lists is_case fits = broker-col
 pub kind-idle_trades : (k : GoalKind) (c : Cluster) (lists : Lists) → IsCase c → Belongs c lists → IfSome (any_weights k) (IdleTrades (meaning_of k c) (any_heat k c lists) c.parts lists)
 kind-idle_trades kind.Evacuation c lists is_case fits = tt
 kind-idle_trades kind.RackAware c lists is_case fits = tt
+kind-idle_trades kind.MinTopicLeadersPerBroker c lists is_case fits = tt
 kind-idle_trades kind.ReplicaCapacity c lists is_case fits = broker-idle_trades true replica_weights (at_most c.options.max_replicas) c lists (Limits-case c is_case) fits
 kind-idle_trades kind.DiskCapacity c lists is_case fits = broker-idle_trades true (load_weights 3) (within_capacity (ratio_at c.options.limit 3) 3) c lists (Limits-case c is_case) fits
 kind-idle_trades kind.NetworkInboundCapacity c lists is_case fits = broker-idle_trades true (load_weights 1) (within_capacity (ratio_at c.options.limit 1) 1) c lists (Limits-case c is_case) fits
@@ -117,3 +124,52 @@ kind-idle_trades kind.CpuUsageDistribution c lists is_case fits = broker-idle_tr
 kind-idle_trades kind.TopicReplicaDistribution c lists is_case fits = tt
 kind-idle_trades kind.LeaderReplicaDistribution c lists is_case fits = broker-idle_trades false leader_weights (even c.options.leader_balance (units_of c)) c lists (Limits-case c is_case) fits
 kind-idle_trades kind.LeaderBytesInDistribution c lists is_case fits = broker-idle_trades false leader_in_weights (below_use (ratio_at c.options.balance 1) 1 (whole_cap 1 c)) c lists (Limits-case c is_case) fits
+
+-- the rooms of the two brokers of an action decide whether a goal over brokers accepts it
+pub broker-decides : (hard : Bool) (w : Weights) (b : Bounds) (c : Cluster) (lists : Lists) → ((p : Part) → SmallLoads p → SmallWeights w p) → IsCase c → Belongs c lists
+    → RoomsDecide (per_broker hard w b c) (broker_room w b c lists) c.parts lists w
+broker-decides hard w b c lists small is_case fits =
+    let limits = Limits-case c is_case in
+    broker-rooms_decide hard w b c lists limits fits (λ k d l. small (get_or c.parts k d) (limits.loads k d l))
+
+-- where it has a quantity, the rooms of an action's two brokers decide whether it accepts it
+pub kind-rooms_decide : (k : GoalKind) (c : Cluster) (lists : Lists) → IsCase c → Belongs c lists → IfSome (any_weights k) (RoomsDecide (meaning_of k c) (any_room k c lists) c.parts lists)
+kind-rooms_decide kind.Evacuation c lists is_case fits = tt
+kind-rooms_decide kind.RackAware c lists is_case fits = tt
+kind-rooms_decide kind.MinTopicLeadersPerBroker c lists is_case fits = tt
+kind-rooms_decide kind.ReplicaCapacity c lists is_case fits = broker-decides true replica_weights (at_most c.options.max_replicas) c lists replicas is_case fits
+kind-rooms_decide kind.DiskCapacity c lists is_case fits = broker-decides true (load_weights 3) (within_capacity (ratio_at c.options.limit 3) 3) c lists (loads 3) is_case fits
+kind-rooms_decide kind.NetworkInboundCapacity c lists is_case fits = broker-decides true (load_weights 1) (within_capacity (ratio_at c.options.limit 1) 1) c lists (loads 1) is_case fits
+kind-rooms_decide kind.NetworkOutboundCapacity c lists is_case fits = broker-decides true (load_weights 2) (within_capacity (ratio_at c.options.limit 2) 2) c lists (loads 2) is_case fits
+kind-rooms_decide kind.CpuCapacity c lists is_case fits = broker-decides true (load_weights 0) (within_capacity (ratio_at c.options.limit 0) 0) c lists (loads 0) is_case fits
+kind-rooms_decide kind.Demotion c lists is_case fits = tt
+kind-rooms_decide kind.ReplicaDistribution c lists is_case fits = broker-decides false replica_weights (even c.options.replica_balance (units_of c)) c lists replicas is_case fits
+kind-rooms_decide kind.PotentialNwOut c lists is_case fits = broker-decides false potential_out_weights (within_capacity (ratio_at c.options.limit 2) 2) c lists potential is_case fits
+kind-rooms_decide kind.DiskUsageDistribution c lists is_case fits = broker-decides false (load_weights 3) (near_use (ratio_at c.options.balance 3) 3 (whole_cap 3 c)) c lists (loads 3) is_case fits
+kind-rooms_decide kind.NetworkInboundUsageDistribution c lists is_case fits = broker-decides false (load_weights 1) (near_use (ratio_at c.options.balance 1) 1 (whole_cap 1 c)) c lists (loads 1) is_case fits
+kind-rooms_decide kind.NetworkOutboundUsageDistribution c lists is_case fits = broker-decides false (load_weights 2) (near_use (ratio_at c.options.balance 2) 2 (whole_cap 2 c)) c lists (loads 2) is_case fits
+kind-rooms_decide kind.CpuUsageDistribution c lists is_case fits = broker-decides false (load_weights 0) (near_use (ratio_at c.options.balance 0) 0 (whole_cap 0 c)) c lists (loads 0) is_case fits
+kind-rooms_decide kind.TopicReplicaDistribution c lists is_case fits = tt
+kind-rooms_decide kind.LeaderReplicaDistribution c lists is_case fits = broker-decides false leader_weights (even c.options.leader_balance (units_of c)) c lists leads is_case fits
+kind-rooms_decide kind.LeaderBytesInDistribution c lists is_case fits = broker-decides false leader_in_weights (below_use (ratio_at c.options.balance 1) 1 (whole_cap 1 c)) c lists inbound is_case fits
+
+-- no place of a list adds more than a load value may be
+pub kind-small_weights : (k : GoalKind) (p : Part) → SmallLoads p → IfSome (any_weights k) (λ w. SmallWeights w p)
+kind-small_weights kind.Evacuation p h = tt
+kind-small_weights kind.RackAware p h = tt
+kind-small_weights kind.MinTopicLeadersPerBroker p h = tt
+kind-small_weights kind.ReplicaCapacity p h = replicas p h
+kind-small_weights kind.DiskCapacity p h = loads 3 p h
+kind-small_weights kind.NetworkInboundCapacity p h = loads 1 p h
+kind-small_weights kind.NetworkOutboundCapacity p h = loads 2 p h
+kind-small_weights kind.CpuCapacity p h = loads 0 p h
+kind-small_weights kind.Demotion p h = tt
+kind-small_weights kind.ReplicaDistribution p h = replicas p h
+kind-small_weights kind.PotentialNwOut p h = potential p h
+kind-small_weights kind.DiskUsageDistribution p h = loads 3 p h
+kind-small_weights kind.NetworkInboundUsageDistribution p h = loads 1 p h
+kind-small_weights kind.NetworkOutboundUsageDistribution p h = loads 2 p h
+kind-small_weights kind.CpuUsageDistribution p h = loads 0 p h
+kind-small_weights kind.TopicReplicaDistribution p h = tt
+kind-small_weights kind.LeaderReplicaDistribution p h = leads p h
+kind-small_weights kind.LeaderBytesInDistribution p h = inbound p h

@@ -7,10 +7,13 @@ use Rattle.plan_terms.specs.Racks.{rack_excess}
 use Rattle.goal_terms.specs.Bands.{units_of, whole_cap, at_most, within_capacity, even, near_use, below_use}
 use Rattle.goal_terms.specs.Goals.{ratio_at}
 use Rattle.goal_terms.specs.Heats.{broker_heat, partition_heat}
+use Rattle.goal_terms.specs.LeastLeaders.{IsMadeFor, least_rule}
 use Rattle.goal_terms.specs.Partitions.{demoted_first, lost_members}
-use Rattle.goal_terms.specs.PerTopic.{topic_heat}
+use Rattle.goal_terms.specs.PerTopic.{topic_heat, replica_rule}
 use Rattle.goal_terms.specs.Quantity.{Weights, replica_weights, leader_weights, load_weights, potential_out_weights, leader_in_weights}
+use Rattle.goal_terms.specs.Rooms.{broker_room, free}
 use Rattle.goal_terms.specs.declared.heat.Heat.{Heat}
+use Rattle.goal_terms.specs.declared.room.Room.{Room}
 use Rattle.broker_goals.specs.Made.{IsThreshold}
 use Rattle.goal_set.specs.Kinds.{meaning_of}
 use Rattle.goal_set.specs.declared.any.AnyGoal.{AnyGoal}
@@ -22,6 +25,7 @@ use Rattle.goal_set.specs.declared.kinds.GoalKind.TheVariants as kind
 abbrev pub kind_of : AnyGoal → GoalKind
 kind_of (any.Evacuation g) = kind.Evacuation
 kind_of (any.RackAware g) = kind.RackAware
+kind_of (any.MinTopicLeadersPerBroker g) = kind.MinTopicLeadersPerBroker
 kind_of (any.ReplicaCapacity g) = kind.ReplicaCapacity
 kind_of (any.DiskCapacity g) = kind.DiskCapacity
 kind_of (any.NetworkInboundCapacity g) = kind.NetworkInboundCapacity
@@ -46,6 +50,7 @@ any_meaning g c = meaning_of (kind_of g) c
 abbrev pub any_made : AnyGoal → Cluster → Type 0
 any_made (any.Evacuation g) c = Unit {0}
 any_made (any.RackAware g) c = Unit {0}
+any_made (any.MinTopicLeadersPerBroker g) c = IsMadeFor g.topics.items g.floors.items c
 any_made (any.ReplicaCapacity g) c = Unit {0} × (g.band.most ≡ c.options.max_replicas)
 any_made (any.DiskCapacity g) c = Unit {0} × IsThreshold g.band.limit (ratio_at c.options.limit 3)
 any_made (any.NetworkInboundCapacity g) c = Unit {0} × IsThreshold g.band.limit (ratio_at c.options.limit 1)
@@ -66,6 +71,7 @@ any_made (any.LeaderBytesInDistribution g) c = Unit {0} × (IsThreshold g.band.r
 abbrev pub any_heat : GoalKind → Cluster → Lists → ℕ → Heat
 any_heat kind.Evacuation c lists b = partition_heat (lost_members c) lists b
 any_heat kind.RackAware c lists b = partition_heat (rack_excess c) lists b
+any_heat kind.MinTopicLeadersPerBroker c lists b = topic_heat (topics c.parts) (least_rule c) c lists b
 any_heat kind.ReplicaCapacity c lists b = broker_heat replica_weights (at_most c.options.max_replicas) c lists b
 any_heat kind.DiskCapacity c lists b = broker_heat (load_weights 3) (within_capacity (ratio_at c.options.limit 3) 3) c lists b
 any_heat kind.NetworkInboundCapacity c lists b = broker_heat (load_weights 1) (within_capacity (ratio_at c.options.limit 1) 1) c lists b
@@ -78,14 +84,36 @@ any_heat kind.DiskUsageDistribution c lists b = broker_heat (load_weights 3) (ne
 any_heat kind.NetworkInboundUsageDistribution c lists b = broker_heat (load_weights 1) (near_use (ratio_at c.options.balance 1) 1 (whole_cap 1 c)) c lists b
 any_heat kind.NetworkOutboundUsageDistribution c lists b = broker_heat (load_weights 2) (near_use (ratio_at c.options.balance 2) 2 (whole_cap 2 c)) c lists b
 any_heat kind.CpuUsageDistribution c lists b = broker_heat (load_weights 0) (near_use (ratio_at c.options.balance 0) 0 (whole_cap 0 c)) c lists b
-any_heat kind.TopicReplicaDistribution c lists b = topic_heat (topics c.parts) (even c.options.topic_balance (units_of c)) c lists b
+any_heat kind.TopicReplicaDistribution c lists b = topic_heat (topics c.parts) (replica_rule (even c.options.topic_balance (units_of c))) c lists b
 any_heat kind.LeaderReplicaDistribution c lists b = broker_heat leader_weights (even c.options.leader_balance (units_of c)) c lists b
 any_heat kind.LeaderBytesInDistribution c lists b = broker_heat leader_in_weights (below_use (ratio_at c.options.balance 1) 1 (whole_cap 1 c)) c lists b
+
+-- how much the broker of an id may give and take
+abbrev pub any_room : GoalKind → Cluster → Lists → ℕ → Room
+any_room kind.Evacuation c lists b = free
+any_room kind.RackAware c lists b = free
+any_room kind.MinTopicLeadersPerBroker c lists b = free
+any_room kind.ReplicaCapacity c lists b = broker_room replica_weights (at_most c.options.max_replicas) c lists b
+any_room kind.DiskCapacity c lists b = broker_room (load_weights 3) (within_capacity (ratio_at c.options.limit 3) 3) c lists b
+any_room kind.NetworkInboundCapacity c lists b = broker_room (load_weights 1) (within_capacity (ratio_at c.options.limit 1) 1) c lists b
+any_room kind.NetworkOutboundCapacity c lists b = broker_room (load_weights 2) (within_capacity (ratio_at c.options.limit 2) 2) c lists b
+any_room kind.CpuCapacity c lists b = broker_room (load_weights 0) (within_capacity (ratio_at c.options.limit 0) 0) c lists b
+any_room kind.Demotion c lists b = free
+any_room kind.ReplicaDistribution c lists b = broker_room replica_weights (even c.options.replica_balance (units_of c)) c lists b
+any_room kind.PotentialNwOut c lists b = broker_room potential_out_weights (within_capacity (ratio_at c.options.limit 2) 2) c lists b
+any_room kind.DiskUsageDistribution c lists b = broker_room (load_weights 3) (near_use (ratio_at c.options.balance 3) 3 (whole_cap 3 c)) c lists b
+any_room kind.NetworkInboundUsageDistribution c lists b = broker_room (load_weights 1) (near_use (ratio_at c.options.balance 1) 1 (whole_cap 1 c)) c lists b
+any_room kind.NetworkOutboundUsageDistribution c lists b = broker_room (load_weights 2) (near_use (ratio_at c.options.balance 2) 2 (whole_cap 2 c)) c lists b
+any_room kind.CpuUsageDistribution c lists b = broker_room (load_weights 0) (near_use (ratio_at c.options.balance 0) 0 (whole_cap 0 c)) c lists b
+any_room kind.TopicReplicaDistribution c lists b = free
+any_room kind.LeaderReplicaDistribution c lists b = broker_room leader_weights (even c.options.leader_balance (units_of c)) c lists b
+any_room kind.LeaderBytesInDistribution c lists b = broker_room leader_in_weights (below_use (ratio_at c.options.balance 1) 1 (whole_cap 1 c)) c lists b
 
 -- what the places of a list add to a broker's quantity
 abbrev pub any_weights : GoalKind → Option Weights
 any_weights kind.Evacuation = None
 any_weights kind.RackAware = None
+any_weights kind.MinTopicLeadersPerBroker = None
 any_weights kind.ReplicaCapacity = Some replica_weights
 any_weights kind.DiskCapacity = Some (load_weights 3)
 any_weights kind.NetworkInboundCapacity = Some (load_weights 1)

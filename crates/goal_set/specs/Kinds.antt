@@ -1,6 +1,7 @@
 -- The kinds of goals: their order, their names, and what each means.
 use Rattle.std.specs.Prelude.{ℕ, Bool, true, false, List, codes, map}
 use Rattle.goal_terms.specs.Goals as goals
+use Rattle.goal_terms.specs.LeastLeaders.{least_leaders_goal}
 use Rattle.goal_terms.specs.Partitions.{evacuation_goal, demotion_goal}
 use Rattle.plan_terms.specs.Cluster.{Cluster}
 use Rattle.plan_terms.specs.Goal.{Meaning}
@@ -12,6 +13,7 @@ use Rattle.goal_set.specs.declared.kinds.GoalKind.TheVariants as kind
 abbrev pub meaning_of : GoalKind → Cluster → Meaning
 meaning_of kind.Evacuation c = evacuation_goal c
 meaning_of kind.RackAware c = rack_goal c
+meaning_of kind.MinTopicLeadersPerBroker c = least_leaders_goal c
 meaning_of kind.ReplicaCapacity c = goals.replica_capacity_goal c
 meaning_of kind.DiskCapacity c = goals.capacity_goal 3 c
 meaning_of kind.NetworkInboundCapacity c = goals.capacity_goal 1 c
@@ -36,6 +38,7 @@ meanings c kinds = map (λ k. meaning_of k c) kinds
 abbrev pub is_hard_kind : GoalKind → Bool
 is_hard_kind kind.Evacuation = true
 is_hard_kind kind.RackAware = true
+is_hard_kind kind.MinTopicLeadersPerBroker = true
 is_hard_kind kind.ReplicaCapacity = true
 is_hard_kind kind.DiskCapacity = true
 is_hard_kind kind.NetworkInboundCapacity = true
@@ -56,6 +59,7 @@ is_hard_kind kind.LeaderBytesInDistribution = false
 abbrev pub name_of : GoalKind → List ℕ
 name_of kind.Evacuation = codes "EvacuationGoal"
 name_of kind.RackAware = codes "RackAwareGoal"
+name_of kind.MinTopicLeadersPerBroker = codes "MinTopicLeadersPerBrokerGoal"
 name_of kind.ReplicaCapacity = codes "ReplicaCapacityGoal"
 name_of kind.DiskCapacity = codes "DiskCapacityGoal"
 name_of kind.NetworkInboundCapacity = codes "NetworkInboundCapacityGoal"

@@ -10,7 +10,7 @@ use Rattle.goal_set.specs.declared.list.GoalFault.TheVariants.{UnknownGoal, Repe
 -- the goals of a request that names none
 abbrev pub default_kinds : List GoalKind
 default_kinds =
-    kind.Evacuation ∷ kind.RackAware ∷ kind.ReplicaCapacity ∷ kind.DiskCapacity ∷ kind.NetworkInboundCapacity
+    kind.Evacuation ∷ kind.RackAware ∷ kind.MinTopicLeadersPerBroker ∷ kind.ReplicaCapacity ∷ kind.DiskCapacity ∷ kind.NetworkInboundCapacity
     ∷ kind.NetworkOutboundCapacity ∷ kind.CpuCapacity ∷ kind.Demotion ∷ kind.ReplicaDistribution ∷ kind.PotentialNwOut
     ∷ kind.DiskUsageDistribution ∷ kind.NetworkInboundUsageDistribution ∷ kind.NetworkOutboundUsageDistribution
     ∷ kind.CpuUsageDistribution ∷ kind.TopicReplicaDistribution ∷ kind.LeaderReplicaDistribution
@@ -65,7 +65,7 @@ unfoldable pub names_fault : List (List ℕ) → Bool → Option GoalFault
 names_fault names skip =
     or_else (option_map UnknownGoal (first_unknown names))
     (or_else (option_map RepeatedGoal (first_again [] names))
-    (if skip then None else option_map MissingHardGoal (first_missing names)))
+    (if skip then None else option_map (λ k. MissingHardGoal (name_of k)) (first_missing names)))
 
 -- no names have no fault: they stand for the default list
 abbrev pub read_fault : List (List ℕ) → Bool → Option GoalFault

@@ -1,7 +1,7 @@
 // A goal of any kind, as one type.
 ghost use Rattle.std.specs.Prelude.{◌≡◌, ◌<◌, ◌^◌, ◌↔◌, IfOk, IsTrue, length, map, option_map};
 ghost use Rattle.std.specs.List.{All};
-ghost use Rattle.goal_set.specs.AnyMeaning.{any_heat, any_made, any_meaning, any_weights, kind_of};
+ghost use Rattle.goal_set.specs.AnyMeaning.{any_heat, any_room, any_made, any_meaning, any_weights, kind_of};
 ghost use Rattle.goal_set.specs.Kinds.{meaning_of, meanings};
 
 use crate::kinds::GoalKind;
@@ -14,10 +14,11 @@ use distribution_goals::{
     NetworkOutboundUsageDistributionGoal, ReplicaDistributionGoal, TopicReplicaDistributionGoal,
 };
 use leader_goals::{
-    LeaderBytesInDistributionGoal, LeaderReplicaDistributionGoal, PotentialNwOutGoal,
+    LeaderBytesInDistributionGoal, LeaderReplicaDistributionGoal, MinTopicLeadersPerBrokerGoal,
+    PotentialNwOutGoal,
 };
 use load_model::{Case, LoadBook, Memory};
-use move_actions::{Goal, Heat};
+use move_actions::{Goal, Heat, Room};
 use plan_terms::Action;
 use rack_goals::{DemotionGoal, EvacuationGoal, RackAwareGoal};
 use std::alloc::Global;
@@ -27,6 +28,7 @@ use std::alloc::Global;
 pub enum AnyGoal {
     Evacuation(EvacuationGoal),
     RackAware(RackAwareGoal),
+    MinTopicLeadersPerBroker(MinTopicLeadersPerBrokerGoal),
     ReplicaCapacity(ReplicaCapacityGoal),
     DiskCapacity(DiskCapacityGoal),
     NetworkInboundCapacity(NetworkInboundCapacityGoal),
@@ -47,11 +49,15 @@ pub enum AnyGoal {
 /// The goal of a kind, for the case.
 pub fn goal_of(alloc: Global, kind: GoalKind, case: &Case) -> Result<AnyGoal, Memory>
     ensures made { IfOk result (λ g. any_made g case.now) }
+    ensures kind { IfOk result (λ g. kind_of g ≡ kind) }
     ensures meaning { IfOk result (λ g. any_meaning g case.now ≡ meaning_of kind case.now) }
 {
     Ok(match kind {
         GoalKind::Evacuation => AnyGoal::Evacuation(EvacuationGoal::new(alloc, case)?),
         GoalKind::RackAware => AnyGoal::RackAware(RackAwareGoal::new(alloc, case)?),
+        GoalKind::MinTopicLeadersPerBroker => AnyGoal::MinTopicLeadersPerBroker(
+            MinTopicLeadersPerBrokerGoal::new(alloc, case)?,
+        ),
         GoalKind::ReplicaCapacity => AnyGoal::ReplicaCapacity(ReplicaCapacityGoal::new(
             alloc, case,
         )?),
@@ -95,6 +101,7 @@ pub fn goal_of(alloc: Global, kind: GoalKind, case: &Case) -> Result<AnyGoal, Me
 /// The goal of each kind, for the case.
 pub fn goals_of(alloc: Global, kinds: &[GoalKind], case: &Case) -> Result<Vec<AnyGoal>, Memory>
     ensures made { IfOk result (λ goals. All (λ g. any_made g case.now) goals.items) }
+    ensures kinds { IfOk result (λ goals. map kind_of goals.items ≡ kinds.now) }
     ensures meanings { IfOk result (λ goals. map (λ g. any_meaning g case.now) goals.items ≡ meanings case.now kinds.now) }
 {
     let mut goals = Vec::new(alloc);
@@ -110,6 +117,7 @@ macro_rules! each_goal {
         match $any {
             AnyGoal::Evacuation($goal) => $call,
             AnyGoal::RackAware($goal) => $call,
+            AnyGoal::MinTopicLeadersPerBroker($goal) => $call,
             AnyGoal::ReplicaCapacity($goal) => $call,
             AnyGoal::DiskCapacity($goal) => $call,
             AnyGoal::NetworkInboundCapacity($goal) => $call,
@@ -130,7 +138,7 @@ macro_rules! each_goal {
 }
 
 impl Goal for AnyGoal {
-    ghost use Rattle.goal_set.specs.AnyLaws.{any-small, kind-cold_pairs, kind-idle_trades};
+    ghost use Rattle.goal_set.specs.AnyLaws.{any-small, kind-cold_pairs, kind-idle_trades, kind-rooms_decide, kind-small_weights};
 
     ghost meaning = { λ g c. any_meaning g c };
 
@@ -139,6 +147,8 @@ impl Goal for AnyGoal {
     ghost heat_at = { λ g c lists b. any_heat (kind_of g) c lists b };
 
     ghost weighs = { λ g. any_weights (kind_of g) };
+
+    ghost room_at = { λ g c lists b. any_room (kind_of g) c lists b };
 
     fn is_hard(&self, case: &Case) -> bool {
         each_goal!(self, goal => goal.is_hard(case))
@@ -168,9 +178,21 @@ impl Goal for AnyGoal {
         each_goal!(self, goal => goal.weight(case, part, leads))
     }
 
+    fn whole(&self, case: &Case, book: &LoadBook) -> Option<u128> {
+        each_goal!(self, goal => goal.whole(case, book))
+    }
+
+    fn room(&self, case: &Case, book: &LoadBook, all: u128, broker: usize) -> Option<Room> {
+        each_goal!(self, goal => goal.room(case, book, all, broker))
+    }
+
     ghost small = { λ g c lists made is_case fits. any-small g c lists made is_case fits };
 
     ghost cold_pairs = { λ g c lists _ is_case fits. kind-cold_pairs (kind_of g) c lists is_case fits };
 
     ghost idle_trades = { λ g c lists _ is_case fits. kind-idle_trades (kind_of g) c lists is_case fits };
+
+    ghost rooms_decide = { λ g c lists _ is_case fits. kind-rooms_decide (kind_of g) c lists is_case fits };
+
+    ghost small_weights = { λ g p h. kind-small_weights (kind_of g) p h };
 }

@@ -9,6 +9,8 @@ pub enum GoalKind {
     /// No replica stands on a lost broker.
     Evacuation,
     RackAware,
+    /// Each broker that may lead leads as many partitions of a topic as are asked.
+    MinTopicLeadersPerBroker,
     ReplicaCapacity,
     DiskCapacity,
     NetworkInboundCapacity,
@@ -37,7 +39,7 @@ pub(crate) struct DefaultGoal {
 
 // The goals of a request that names none, in the order of their turns: the one table of names and hardness too. It has
 // the order of the variants, so that a kind's number is its place.
-pub(crate) const DEFAULT_GOALS: [DefaultGoal; 17] = [
+pub(crate) const DEFAULT_GOALS: [DefaultGoal; 18] = [
     DefaultGoal {
         kind: GoalKind::Evacuation,
         name: "EvacuationGoal",
@@ -46,6 +48,11 @@ pub(crate) const DEFAULT_GOALS: [DefaultGoal; 17] = [
     DefaultGoal {
         kind: GoalKind::RackAware,
         name: "RackAwareGoal",
+        hard: true,
+    },
+    DefaultGoal {
+        kind: GoalKind::MinTopicLeadersPerBroker,
+        name: "MinTopicLeadersPerBrokerGoal",
         hard: true,
     },
     DefaultGoal {

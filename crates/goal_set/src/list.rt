@@ -16,8 +16,8 @@ pub enum GoalFault {
     UnknownGoal(GoalName),
     /// The first name that stands again.
     RepeatedGoal(GoalName),
-    /// The first hard goal that is not named.
-    MissingHardGoal(GoalKind),
+    /// The name of the first hard goal that is not named.
+    MissingHardGoal(GoalName),
     /// Want of memory.
     Memory,
 }
@@ -178,6 +178,13 @@ fn first_missing(names: &[GoalName]) -> Option<GoalKind>
     first_missing_of(&DEFAULT_GOALS, names)
 }
 
+// The name of a goal, as it is named in a request.
+fn goal_name(alloc: Global, kind: GoalKind) -> Result<GoalName, Memory>
+    ensures { IfOk result (λ n. n ≡ name_of kind) }
+{
+    Ok(GoalName::new(String::from_str(alloc, kind.name())?))
+}
+
 #[tactic(auto, unfolding(crate::specs::Read::names_fault))]
 fn check_names(alloc: Global, names: &[GoalName], skip: bool) -> Result<(), GoalFault>
     ensures ok { OnOk result (names_fault names.now skip ≡ None) }
@@ -193,7 +200,7 @@ fn check_names(alloc: Global, names: &[GoalName], skip: bool) -> Result<(), Goal
         return Ok(());
     }
     match first_missing(names) {
-        Some(kind) => Err(GoalFault::MissingHardGoal(kind)),
+        Some(kind) => Err(GoalFault::MissingHardGoal(goal_name(alloc, kind)?)),
         None => Ok(()),
     }
 }

@@ -4,6 +4,7 @@ pub mod BrokerLemmas
 pub mod CaseLemmas
 pub mod GoalTable
 pub mod HeatLemmas
+pub mod LeastLemmas
 pub mod LoadLemmas
 pub mod LoopLemmas
 pub mod PairLemmas
@@ -11,6 +12,7 @@ pub mod PartitionGoals
 pub mod PartitionHeat
 pub mod PlaceLemmas
 pub mod ReadingLemmas
+pub mod RoomLemmas
 pub mod SideLemmas
 pub mod TopicGoalLemmas
 pub mod TopicLemmas

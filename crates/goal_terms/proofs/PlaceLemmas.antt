@@ -9,6 +9,8 @@ use Rattle.std.proofs.lemmas.List.Sums.{sum_by-cons}
 use Rattle.plan_terms.specs.Cluster.{has}
 use Rattle.plan_terms.specs.States.{is_dead}
 use Rattle.plan_terms.specs.declared.cluster.Broker.{Broker}
+use Rattle.goal_terms.specs.Rooms.{room_at_id, free}
+use Rattle.goal_terms.specs.declared.room.Room.{Room}
 use Rattle.goal_terms.specs.Heats.{heat_at_id}
 use Rattle.goal_terms.specs.PerBroker.{is_unit, unit_brokers, at_id, ids_of, id_at, distinct_ids}
 use Rattle.goal_terms.specs.declared.heat.Heat.{Heat}
@@ -70,6 +72,27 @@ module _ (f : Broker → Heat) where
   heat_at_id-place (x ∷ xs) (suc i) d h l =
       let later = heat_at_id-place xs i d (and_parts _ _ h).1 (omega arith) in
       elim (cases_Bool (is_unit x)) as (λ _. heat_at_id f (cond (is_unit x) (x ∷ unit_brokers xs) (unit_brokers xs)) (id_at xs i) ≡ (if is_unit (get_or xs i d) then f (get_or xs i d) else Cold)) [
+        | inl e ↦ rw (e, ne_eqb x.id (id_at xs i) (apart x xs i h (omega arith))) later
+        | inr e ↦ rw e later
+      ]
+
+module _ (f : Broker → Room) where
+  -- an id that no broker has has no limit
+  room-absent : (xs : List Broker) (k : ℕ) → has (ids_of xs) k ≡ false → room_at_id f xs k ≡ free
+  room-absent [] k h = refl
+  room-absent (x ∷ xs) k h = rw (or_parts (x.id == k) (has (ids_of xs) k) h).0 (room-absent xs k (or_parts (x.id == k) (has (ids_of xs) k) h).1)
+
+  -- the room of the broker at a place, or no limit where it is lost
+  pub room_at_id-place : (xs : List Broker) (i : ℕ) (d : Broker) → distinct_ids xs ≡ true → i < length xs
+      → room_at_id f (unit_brokers xs) (id_at xs i) ≡ (if is_unit (get_or xs i d) then f (get_or xs i d) else free)
+  room_at_id-place [] i d h l = absurd (omega arith)
+  room_at_id-place (x ∷ xs) zero d h l = elim (cases_Bool (is_unit x)) as (λ _. room_at_id f (cond (is_unit x) (x ∷ unit_brokers xs) (unit_brokers xs)) x.id ≡ (if is_unit x then f x else free)) [
+    | inl e ↦ rw (e, eq-eqb x.id x.id refl) refl
+    | inr e ↦ rw e (room-absent (unit_brokers xs) x.id (absent-units xs x.id (not-true _ (and_parts _ _ h).0)))
+  ]
+  room_at_id-place (x ∷ xs) (suc i) d h l =
+      let later = room_at_id-place xs i d (and_parts _ _ h).1 (omega arith) in
+      elim (cases_Bool (is_unit x)) as (λ _. room_at_id f (cond (is_unit x) (x ∷ unit_brokers xs) (unit_brokers xs)) (id_at xs i) ≡ (if is_unit (get_or xs i d) then f (get_or xs i d) else free)) [
         | inl e ↦ rw (e, ne_eqb x.id (id_at xs i) (apart x xs i h (omega arith))) later
         | inr e ↦ rw e later
       ]

@@ -7,7 +7,7 @@ use Rattle.plan_terms.specs.Goal.{Meaning}
 use Rattle.plan_terms.specs.declared.cluster.Options.{Options}
 use Rattle.goal_terms.specs.Bands.{units_of, whole_cap, at_most, within_capacity, even, near_use, below_use}
 use Rattle.goal_terms.specs.PerBroker.{per_broker}
-use Rattle.goal_terms.specs.PerTopic.{per_topic}
+use Rattle.goal_terms.specs.PerTopic.{per_topic, replica_rule}
 use Rattle.goal_terms.specs.Quantity.{replica_weights, leader_weights, load_weights, potential_out_weights, leader_in_weights}
 
 -- the threshold of a resource
@@ -44,7 +44,7 @@ usage_distribution_goal r c = per_broker false (load_weights r) (near_use (ratio
 
 -- each topic's replicas are spread evenly
 abbrev pub topic_distribution_goal : Cluster → Meaning
-topic_distribution_goal c = per_topic false (even c.options.topic_balance (units_of c)) c
+topic_distribution_goal c = per_topic false (replica_rule (even c.options.topic_balance (units_of c))) c
 
 -- leaders are spread evenly
 abbrev pub leader_distribution_goal : Cluster → Meaning

@@ -16,11 +16,12 @@ use Rattle.goal_terms.specs.Bands.{units_of, whole_cap, low_of, rounded_up, at_m
 use Rattle.goal_terms.specs.Goals.{AreRatios, replica_capacity_goal, capacity_goal, replica_distribution_goal, potential_out_goal, usage_distribution_goal, topic_distribution_goal, leader_distribution_goal, leader_in_goal}
 use Rattle.goal_terms.specs.Heats.{bound_heat, broker_heat, partition_heat}
 use Rattle.goal_terms.specs.Limits.{Limits, SmallLoads, SmallWeights, SmallBounds}
-use Rattle.goal_terms.specs.Pairs.{ColdPairs, IdleTrades}
+use Rattle.goal_terms.specs.Pairs.{giver, taker, ColdPairs, IdleTrades}
 use Rattle.goal_terms.specs.Partitions.{evacuation_goal, demotion_goal}
 use Rattle.goal_terms.specs.PerBroker.{Bounds, ids_of, unit_brokers, bound_excess, per_broker}
-use Rattle.goal_terms.specs.PerTopic.{per_topic, first_topic, second_topic, topic_heat}
+use Rattle.goal_terms.specs.PerTopic.{TopicRule, rule_weights, replica_rule, per_topic, first_topic, second_topic, topic_heat}
 use Rattle.goal_terms.specs.Quantity.{Weights, quantity, total, trade, Trades, replica_weights, leader_weights, load_weights, potential_out_weights, leader_in_weights, topic_weights}
+use Rattle.goal_terms.specs.Rooms.{RoomsDecide, broker_room}
 use Rattle.goal_terms.specs.Sides.{sides}
 use Rattle.goal_terms.specs.declared.heat.Heat.TheVariants as heat
 
@@ -135,29 +136,29 @@ pub record ExcessesInNumbers : Type 0 where
 
 -- unit i * n + u of a goal over topics and brokers, of which n aren't lost, is the i-th topic's at the u-th of them
 abbrev pub TopicsComeFirst : Type 0
-TopicsComeFirst = (hard : Bool) (b : Bounds) (c : Cluster) (lists : Lists) (i u : ℕ) → i < length (topics c.parts) → u < units_of c
-    → (per_topic hard b c).excess lists (i * units_of c + u) ≡ (per_broker hard (topic_weights (get_or (topics c.parts) i [])) b c).excess lists u
+TopicsComeFirst = (hard : Bool) (r : TopicRule) (c : Cluster) (lists : Lists) (i u : ℕ) → i < length (topics c.parts) → u < units_of c
+    → (per_topic hard r c).excess lists (i * units_of c + u) ≡ (per_broker hard (rule_weights r (get_or (topics c.parts) i [])) (r.bounds (get_or (topics c.parts) i [])) c).excess lists u
 
 -- the measure of a goal over topics and brokers is the sum of those of its topics
 abbrev pub TopicsAddUp : Type 0
-TopicsAddUp = (hard : Bool) (b : Bounds) (c : Cluster) (lists : Lists)
-    → measure (per_topic hard b c) lists ≡ sum_by (λ t. measure (per_broker hard (topic_weights t) b c) lists) (topics c.parts)
+TopicsAddUp = (hard : Bool) (r : TopicRule) (c : Cluster) (lists : Lists)
+    → measure (per_topic hard r c) lists ≡ sum_by (λ t. measure (per_broker hard (rule_weights r t) (r.bounds t) c) lists) (topics c.parts)
 
 -- a goal over topics and brokers accepts an action where the goals for the topics that it touches do
 abbrev pub TouchedTopicsAccept : Type 0
-TouchedTopicsAccept = (hard : Bool) (b : Bounds) (c : Cluster) (lists : Lists) (a : Action) → IsCase c → Belongs c lists → IsTrue (fits lists a)
-    → (Accepts (per_broker hard (topic_weights (first_topic c.parts a)) b c) lists a × Accepts (per_broker hard (topic_weights (second_topic c.parts a)) b c) lists a)
-    ↔ Accepts (per_topic hard b c) lists a
+TouchedTopicsAccept = (hard : Bool) (r : TopicRule) (c : Cluster) (lists : Lists) (a : Action) → IsCase c → Belongs c lists → IsTrue (fits lists a)
+    → (Accepts (per_broker hard (rule_weights r (first_topic c.parts a)) (r.bounds (first_topic c.parts a)) c) lists a × Accepts (per_broker hard (rule_weights r (second_topic c.parts a)) (r.bounds (second_topic c.parts a)) c) lists a)
+    ↔ Accepts (per_topic hard r c) lists a
 
 -- an action of two cold brokers lessens no goal over topics and brokers
 abbrev pub ColdTopicsLessenNothing : Type 0
-ColdTopicsLessenNothing = (hard : Bool) (b : Bounds) (c : Cluster) (lists : Lists) → IsCase c → Belongs c lists
-    → ColdPairs (per_topic hard b c) (topic_heat (topics c.parts) b c lists) lists
+ColdTopicsLessenNothing = (hard : Bool) (r : TopicRule) (c : Cluster) (lists : Lists) → IsCase c → Belongs c lists
+    → ColdPairs (per_topic hard r c) (topic_heat (topics c.parts) r c lists) lists
 
 -- the measure of the goal that each topic is spread evenly is below 2^120
 abbrev pub TopicMeasuresAreSmall : Type 0
 TopicMeasuresAreSmall = (hard : Bool) (ratio : Fraction) (c : Cluster) (lists : Lists) → IsRatio ratio.num ratio.den → IsCase c → Belongs c lists
-    → measure (per_topic hard (even ratio (units_of c)) c) lists < 2 ^ 120
+    → measure (per_topic hard (replica_rule (even ratio (units_of c))) c) lists < 2 ^ 120
 
 -- the measure of each goal over brokers is below 2^120
 pub record GoalMeasures (c : Cluster) (lists : Lists) : Type 0 where
@@ -173,3 +174,13 @@ pub record GoalMeasures (c : Cluster) (lists : Lists) : Type 0 where
 -- so it is for every case, its thresholds and the lists that belong to it
 abbrev pub GoalMeasuresAreSmall : Type 0
 GoalMeasuresAreSmall = (c : Cluster) (lists : Lists) → IsCase c → AreRatios c.options → Belongs c lists → GoalMeasures c lists
+
+-- a goal over brokers accepts an action where its two brokers stay in their rooms
+abbrev pub BrokerRoomsDecide : Type 0
+BrokerRoomsDecide = (hard : Bool) (w : Weights) (b : Bounds) (c : Cluster) (lists : Lists) → IsCase c → Belongs c lists → All (SmallWeights w) c.parts
+    → RoomsDecide (per_broker hard w b c) (broker_room w b c lists) c.parts lists w
+
+-- an action leaves the rooms of all brokers but its two
+abbrev pub RoomsStay : Type 0
+RoomsStay = (w : Weights) (b : Bounds) (c : Cluster) (lists : Lists) (a : Action) → Belongs c lists → IsTrue (fits lists a)
+    → (k : ℕ) → (k ≡ giver lists a → ⊥) → (k ≡ taker a → ⊥) → broker_room w b c (after a lists) k ≡ broker_room w b c lists k

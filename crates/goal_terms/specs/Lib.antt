@@ -3,10 +3,12 @@ pub mod Examples
 pub mod Goals
 pub mod Heats
 pub mod Laws
+pub mod LeastLeaders
 pub mod Limits
 pub mod Pairs
 pub mod Partitions
 pub mod PerBroker
 pub mod PerTopic
 pub mod Quantity
+pub mod Rooms
 pub mod Sides

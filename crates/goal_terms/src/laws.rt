@@ -11,9 +11,9 @@ ghost use Rattle.goal_terms.specs.Partitions.{lost_members, evacuation_goal, dem
 ghost use Rattle.goal_terms.specs.declared.heat.Heat.TheVariants as heat;
 ghost use Rattle.plan_terms.specs.declared.actions.Action.{Action};
 ghost use Rattle.goal_terms.specs.PerBroker.{per_broker};
-ghost use Rattle.goal_terms.specs.PerTopic.{per_topic};
+ghost use Rattle.goal_terms.specs.PerTopic.{per_topic, replica_rule};
 ghost use Rattle.goal_terms.specs.Quantity.{trade, replica_weights, leader_weights, load_weights, potential_out_weights, leader_in_weights};
-ghost use Rattle.goal_terms.specs.Laws.{CasesAreLimited, ActionsTrade, TotalsStay, QuantitiesAreSmall, MeasuresAreSmall, WeightsAreSmall, BoundsAreSmall, PartitionMeasuresAreSmall, TwoBrokersAccept, TwoBrokersLessen, HeatsTell, ColdBrokersLessenNothing, ColdMembersLessenNothing, IdleTradesLessenNothing, QuantitiesAreSums, TotalsAreSums, ExcessesInNumbers, TopicsComeFirst, TopicsAddUp, TouchedTopicsAccept, ColdTopicsLessenNothing, TopicMeasuresAreSmall, GoalMeasuresAreSmall};
+ghost use Rattle.goal_terms.specs.Laws.{CasesAreLimited, ActionsTrade, TotalsStay, QuantitiesAreSmall, MeasuresAreSmall, WeightsAreSmall, BoundsAreSmall, PartitionMeasuresAreSmall, TwoBrokersAccept, TwoBrokersLessen, BrokerRoomsDecide, RoomsStay, HeatsTell, ColdBrokersLessenNothing, ColdMembersLessenNothing, IdleTradesLessenNothing, QuantitiesAreSums, TotalsAreSums, ExcessesInNumbers, TopicsComeFirst, TopicsAddUp, TouchedTopicsAccept, ColdTopicsLessenNothing, TopicMeasuresAreSmall, GoalMeasuresAreSmall};
 
 /// Brokers and partitions without a fault are within the limits.
 pub fn cases_are_limited()
@@ -63,6 +63,16 @@ pub fn two_brokers_accept()
 /// An action lessens a goal over brokers exactly where its two brokers' excesses together fall.
 pub fn two_brokers_lessen()
     ensures { TwoBrokersLessen }
+{}
+
+/// A goal over brokers accepts an action exactly where its two brokers stay in their rooms.
+pub fn broker_rooms_decide()
+    ensures { BrokerRoomsDecide }
+{}
+
+/// An action leaves the rooms of all brokers but its two as they are.
+pub fn rooms_stay()
+    ensures { RoomsStay }
 {}
 
 /// What the heat of a broker says of its quantity.
@@ -167,7 +177,7 @@ pub fn goals_on_examples()
     ensures followed { measure (demotion_goal demoted_broker) ((1 ∷ 0 ∷ []) ∷ []) ≡ 0 }
 
     // The only topic's three replicas, on one of two brokers as before.
-    ensures topics { measure (per_topic false (even (record { num = 1; den = 1 }) (units_of replaced_broker)) replaced_broker) ((1 ∷ []) ∷ (1 ∷ []) ∷ (1 ∷ []) ∷ []) ≡ 2 }
+    ensures topics { measure (per_topic false (replica_rule (even (record { num = 1; den = 1 }) (units_of replaced_broker))) replaced_broker) ((1 ∷ []) ∷ (1 ∷ []) ∷ (1 ∷ []) ∷ []) ≡ 2 }
 
     // A broker is above or below its bounds, or cold, as one that is lost.
     ensures above { broker_heat replica_weights (at_most 0) replaced_broker one_each 1 ≡ heat.Above }

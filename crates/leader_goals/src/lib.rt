@@ -1,6 +1,8 @@
 //! The soft goals over brokers about leaders: what they would send, how many they are, and what they receive.
 #![tactic(auto)]
 
+mod least;
+
 ghost use Rattle.goal_terms.specs.Goals.{leader_distribution_goal, leader_in_goal, potential_out_goal};
 ghost use Rattle.std.specs.Prelude.{◌≡◌};
 
@@ -8,6 +10,7 @@ use broker_goals::{
     BelowUse, BrokerGoal, Even, LeaderBalance, LeaderIn, Leaders, NetworkIn, NetworkOut,
     PotentialOut, Soft, WithinCapacity,
 };
+pub use least::MinTopicLeadersPerBrokerGoal;
 use move_actions::Goal;
 
 /// The goal that no broker would send more than the part of its capacity that may be used if it led every partition of

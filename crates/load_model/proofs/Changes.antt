@@ -109,7 +109,7 @@ places-same ps qs places n e h =
 IsIndexed-parts : (bs : List Broker) (ps qs : List Part) (o : Options) (ids places : List ℕ) (n : ℕ) → SameParts ps qs → All (λ p. slice_index p.loads.follow 2 ≡ 0) ps
     → IsIndexed (record { brokers = bs; parts = qs; options = o }) ids places n → IsIndexed (record { brokers = bs; parts = ps; options = o }) ids places n
 IsIndexed-parts bs ps qs o ids places n same silent h = record {
-  case_is = record { faultless = fault-parts bs ps qs same ∙ h.case_is.faultless; followers = silent };
+  case_is = record { faultless = fault-parts bs ps qs same ∙ h.case_is.faultless; topics_once = h.case_is.topics_once; followers = silent };
   ids_are = h.ids_are;
   places_are = places-same ps qs places n same.topics_same h.places_are;
 }
@@ -121,7 +121,7 @@ IsIndexed-with_state bs ps o ids places n i b s l is h =
     let same_ids = map-with_state (λ (x : Broker). x.id) s (λ x. refl) bs i in
     let same_caps = map-with_state (λ (x : Broker). x.cap) s (λ x. refl) bs i in
     rw (set-with_state bs i b s l is) (record {
-      case_is = record { faultless = fault-brokers (with_state bs i s) bs ps same_ids same_caps ∙ h.case_is.faultless; followers = h.case_is.followers };
+      case_is = record { faultless = fault-brokers (with_state bs i s) bs ps same_ids same_caps ∙ h.case_is.faultless; topics_once = h.case_is.topics_once; followers = h.case_is.followers };
       ids_are = h.ids_are ∙ sym same_ids;
       places_are = h.places_are;
     })

@@ -1,14 +1,14 @@
 -- What is added up, read as the sums of a cluster's lists.
-use Rattle.std.proofs.Common.{◌≡◌, ◌∙◌, ℕ, ◌+◌, ◌*◌, Bool, true, false, cond, eqb, List, [], ◌∷◌, length, refl, sym, ap, arith, mul-add, mul-one, mul-zero, zero-add}
+use Rattle.std.proofs.Common.{◌≡◌, ◌∙◌, ℕ, ◌+◌, ◌*◌, Bool, true, false, cond, ◌&&◌, eqb, List, [], ◌∷◌, length, zero, refl, sym, ap, arith, mul-add, mul-one, mul-zero, zero-add}
 use Rattle.std.specs.Prelude.{slice_index, bytes_eq}
 use Rattle.std.specs.List.{count_by}
 use Rattle.std.proofs.lemmas.List.Sums.{sum_by-cons}
 use Rattle.plan_terms.specs.Cluster.{Cluster, Lists, leads}
-use Rattle.plan_terms.specs.Load.{count, leaders, load, leader_in, list_load, potential_out, sum_parts, topic_count}
+use Rattle.plan_terms.specs.Load.{count, leaders, load, leader_in, list_load, potential_out, sum_parts, topic_count, topic_leaders}
 use Rattle.plan_terms.specs.declared.cluster.Part.{Part}
 use Rattle.load_model.specs.Amounts.{amount}
 use Rattle.load_model.specs.Places.{topic_at}
-use Rattle.load_model.specs.declared.amounts.Amount.TheVariants.{Load, Replicas, Leaders, PotentialOut, LeaderIn, OfTopic}
+use Rattle.load_model.specs.declared.amounts.Amount.TheVariants.{Load, Replicas, Leaders, PotentialOut, LeaderIn, OfTopic, LedInTopic}
 
 abbrev count_in : ℕ → List ℕ → ℕ
 count_in b list = count_by (λ x. eqb x b) list
@@ -74,3 +74,14 @@ topic_load false b list = even_load 0 b list ∙ omega arith
 pub amount-topic_count : (c : Cluster) (t b : ℕ) (lists : Lists) → amount (OfTopic t) c.parts b lists ≡ topic_count c (topic_at c.parts t) b lists
 unfolding amount
 amount-topic_count c t b lists = sum_parts-same _ _ (λ p list. topic_load (bytes_eq p.topic (topic_at c.parts t)) b list) c.parts lists
+
+led_load : (t : Bool) (b : ℕ) (list : List ℕ) → list_load (cond t 1 0) 0 b list ≡ cond (t && leads list b) 1 0
+led_load true b list = first_load 1 b list
+led_load false b list = first_load 0 b list ∙ none (leads list b) where
+  none : (l : Bool) → cond l 0 0 ≡ zero
+  none true = refl
+  none false = refl
+
+pub amount-topic_leaders : (c : Cluster) (t b : ℕ) (lists : Lists) → amount (LedInTopic t) c.parts b lists ≡ topic_leaders c (topic_at c.parts t) b lists
+unfolding amount
+amount-topic_leaders c t b lists = sum_parts-same _ _ (λ p list. led_load (bytes_eq p.topic (topic_at c.parts t)) b list) c.parts lists

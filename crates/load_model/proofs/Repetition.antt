@@ -4,8 +4,9 @@ use Rattle.std.specs.List.{list_any}
 use Rattle.std.specs.Str.{bytes_eq}
 use Rattle.std.proofs.lemmas.List.{map-append, map_more, take_more, drop_more}
 use Rattle.indexmap.specs.IndexSet.{insert_key}
-use Rattle.plan_terms.specs.Faults.{repeat_from, first_repeat, same_id, same_part}
+use Rattle.plan_terms.specs.Faults.{repeat_from, first_repeat, same_id, same_part, same_topic}
 use Rattle.plan_terms.specs.declared.cluster.Broker.{Broker}
+use Rattle.plan_terms.specs.declared.cluster.MinLeaders.{MinLeaders}
 use Rattle.plan_terms.specs.declared.cluster.Part.{Part}
 use Rattle.load_model.proofs.Listed.{list_any-map}
 
@@ -80,3 +81,20 @@ pub keys_more : (ks : List Kept) (ps : List Part) (i : ℕ) (p : Part) (k : Kept
 keys_more ks ps i p k l at is e h =
     ap (map seen_key) (insert_key-new same_kept ks k h) ∙ map-append seen_key ks (k ∷ []) ∙ ap (λ ys. ys ++ seen_key k ∷ []) e ∙ ap (λ y. map key (take i ps) ++ y ∷ []) is
     ∙ sym (images_more same_part ps i p l at key)
+
+-- a topic that the set has, or lacks, among the least leaders seen
+abbrev pub same_text : Bor (List ℕ) → Bor (List ℕ) → Bool
+same_text a b = bytes_eq a.now b.now
+
+pub any_topic : (k : Bor (List ℕ)) (ks : List (Bor (List ℕ))) (m : MinLeaders) (ms : List MinLeaders) → k.now ≡ m.topic → map (λ k. k.now) ks ≡ map (λ m. m.topic) ms
+    → list_any (same_text k) ks ≡ list_any (same_topic m) ms
+any_topic k ks m ms e h =
+    sym (list_any-map (bytes_eq k.now) (λ (k : Bor (List ℕ)). k.now) ks) ∙ ap (list_any (bytes_eq k.now)) h ∙ ap (λ (t : List ℕ). list_any (bytes_eq t) (map (λ m. m.topic) ms)) e
+    ∙ list_any-map (bytes_eq m.topic) (λ (m : MinLeaders). m.topic) ms
+
+pub topics_more : (ks : List (Bor (List ℕ))) (ms : List MinLeaders) (i : ℕ) (m : MinLeaders) (k : Bor (List ℕ)) → i < length ms → m ≡ get_or ms i m → k.now ≡ m.topic
+    → map (λ k. k.now) ks ≡ map (λ m. m.topic) (take i ms) → list_any (same_text k) ks ≡ false
+    → map (λ k. k.now) (insert_key same_text ks k) ≡ map (λ m. m.topic) (take (i + 1) ms)
+topics_more ks ms i m k l at is e h =
+    ap (map (λ k. k.now)) (insert_key-new same_text ks k h) ∙ map-append (λ (k : Bor (List ℕ)). k.now) ks (k ∷ []) ∙ ap (λ ys. ys ++ k.now ∷ []) e
+    ∙ ap (λ (y : List ℕ). map (λ m. m.topic) (take i ms) ++ y ∷ []) is ∙ sym (images_more same_topic ms i m l at (λ (m : MinLeaders). m.topic))

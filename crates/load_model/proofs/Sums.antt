@@ -13,7 +13,7 @@ use Rattle.plan_terms.proofs.FaultLemmas.{WithinLimits-faultless}
 use Rattle.plan_terms.specs.Load.{list_load, sum_parts}
 use Rattle.plan_terms.specs.declared.cluster.Part.{Part}
 use Rattle.load_model.specs.declared.amounts.Amount.{Amount}
-use Rattle.load_model.specs.declared.amounts.Amount.TheVariants.{Load, Replicas, Leaders, PotentialOut, LeaderIn, OfTopic}
+use Rattle.load_model.specs.declared.amounts.Amount.TheVariants.{Load, Replicas, Leaders, PotentialOut, LeaderIn, OfTopic, LedInTopic}
 use Rattle.load_model.specs.Amounts.{amount, counts_places, lead_of, follow_of, lead_at, follow_at, share}
 use Rattle.load_model.specs.Places.{topic_at, topic_of}
 use Rattle.std.proofs.lemmas.Slice.Eq.{bytes_eq-Decides}
@@ -94,6 +94,7 @@ lead-small Leaders parts p h = omega arith
 lead-small PotentialOut parts p h = omega (arith, h.lead 2)
 lead-small LeaderIn parts p h = omega (arith, h.lead 1)
 lead-small (OfTopic t) parts p h = first_weight (bytes_eq p.topic (topic_at parts t))
+lead-small (LedInTopic t) parts p h = first_weight (bytes_eq p.topic (topic_at parts t))
 
 follow-small : (kind : Amount) (parts : List Part) (p : Part) → LightPart p → follow_of kind parts p ≤ 4294967295
 follow-small (Load r) parts p h = omega (arith, h.follow r)
@@ -102,6 +103,7 @@ follow-small Leaders parts p h = omega arith
 follow-small PotentialOut parts p h = omega (arith, h.lead 2)
 follow-small LeaderIn parts p h = omega arith
 follow-small (OfTopic t) parts p h = first_weight (bytes_eq p.topic (topic_at parts t))
+follow-small (LedInTopic t) parts p h = omega arith
 
 -- a number told of each light partition is small at each place
 image-small : (f : Part → ℕ) (ps : List Part) (i top : ℕ) → ((p : Part) → LightPart p → f p ≤ top) → list_any is_heavy ps ≡ false → get_or (map f ps) i 0 ≤ top
@@ -166,6 +168,7 @@ lead-one Leaders parts p h = omega arith
 lead-one PotentialOut parts p h = absurd (false≢true h)
 lead-one LeaderIn parts p h = absurd (false≢true h)
 lead-one (OfTopic t) parts p h = one_weight (bytes_eq p.topic (topic_at parts t))
+lead-one (LedInTopic t) parts p h = one_weight (bytes_eq p.topic (topic_at parts t))
 
 follow-one : (kind : Amount) (parts : List Part) (p : Part) → counts_places kind ≡ true → follow_of kind parts p ≤ 1
 follow-one (Load r) parts p h = absurd (false≢true h)
@@ -174,6 +177,7 @@ follow-one Leaders parts p h = omega arith
 follow-one PotentialOut parts p h = absurd (false≢true h)
 follow-one LeaderIn parts p h = absurd (false≢true h)
 follow-one (OfTopic t) parts p h = one_weight (bytes_eq p.topic (topic_at parts t))
+follow-one (LedInTopic t) parts p h = omega arith
 
 pub amount-few : (kind : Amount) (c : Cluster) (b : ℕ) (lists : Lists) → IsCase c → IsAssignment lists → counts_places kind ≡ true → amount kind c.parts b lists ≤ 80000
 unfolding amount

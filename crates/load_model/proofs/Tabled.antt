@@ -10,10 +10,10 @@ use Rattle.plan_terms.specs.Faults.{IsCase, topics}
 use Rattle.plan_terms.specs.Load.{list_load, sum_parts}
 use Rattle.plan_terms.specs.declared.cluster.Part.{Part}
 use Rattle.load_model.specs.declared.amounts.Amount.{Amount}
-use Rattle.load_model.specs.declared.amounts.Amount.TheVariants.{Load, Replicas, Leaders, PotentialOut, LeaderIn, OfTopic}
+use Rattle.load_model.specs.declared.amounts.Amount.TheVariants.{Load, Replicas, Leaders, PotentialOut, LeaderIn, OfTopic, LedInTopic}
 use Rattle.load_model.specs.Amounts.{InRange, amount, lead_of, follow_of, lead_at, follow_at, share}
 use Rattle.load_model.specs.Places.{id_at, topic_at, topic_of}
-use Rattle.load_model.specs.Tables.{AreBelow, IsChanged, IsTable, column, kind_at, put_on, weight_at}
+use Rattle.load_model.specs.Tables.{AreBelow, IsChanged, IsTable, column, columns, kind_at, put_on, weight_at}
 use Rattle.load_model.proofs.Sums.{Short, amount-below, topic_test, weight-below}
 
 -- the kinds of the first eight places
@@ -48,25 +48,38 @@ kind_at-load (suc (suc (suc (suc r)))) l = absurd (omega arith)
 
 -- a place carries nothing in another topic
 other_topic : (ps : List Part) (i n t : ℕ) → i < length ps → t < length (topics ps) → topic_at ps n ≡ topic_of ps i
-    → ((s : ℕ) → s < length (topics ps) → topic_at ps s ≡ topic_of ps i → s ≡ n) → (t ≡ n → ⊥) → (first : Bool) → weight_at (OfTopic t) ps i first ≡ 0
+    → ((s : ℕ) → s < length (topics ps) → topic_at ps s ≡ topic_of ps i → s ≡ n) → (t ≡ n → ⊥) → (first : Bool)
+    → (weight_at (OfTopic t) ps i first ≡ 0) × (weight_at (LedInTopic t) ps i first ≡ 0)
 other_topic ps i n t l m named only ne first =
     let none : lead_at (OfTopic t) ps i ≡ 0 = sym (topic_test ps i n t l m named only) ∙ ap {B = ℕ} (λ b. cond b 1 0) (ne_eqb n t (λ e. ne (sym e))) in
-    elim first as (λ b. cond b (lead_at (OfTopic t) ps i) (follow_at (OfTopic t) ps i) ≡ 0) [ true ↦ none | false ↦ none ]
+    by none first
+  where
+    nothing : (qs : List Part) (j : ℕ) → get_or (map (follow_of (LedInTopic t) ps) qs) j 0 ≡ zero
+    nothing [] j = refl
+    nothing (q ∷ qs) zero = refl
+    nothing (q ∷ qs) (suc j) = nothing qs j
 
--- the first eight places and that of one topic changed
-pub IsChanged-places : (ps : List Part) (i n : ℕ) (first : Bool) (minus plus : Amount → ℕ) (old mid new : List ℕ) → i < length ps → n < length (topics ps) → topic_at ps n ≡ topic_of ps i
+    by : lead_at (OfTopic t) ps i ≡ zero → (b : Bool) → (weight_at (OfTopic t) ps i b ≡ zero) × (weight_at (LedInTopic t) ps i b ≡ zero)
+    by none true = (none, none)
+    by none false = (none, nothing ps i)
+
+-- the first eight places and the two of one topic changed, one after another
+pub IsChanged-places : (ps : List Part) (i n : ℕ) (first : Bool) (minus plus : Amount → ℕ) (old mid more new : List ℕ) → i < length ps → n < length (topics ps) → topic_at ps n ≡ topic_of ps i
     → ((s : ℕ) → s < length (topics ps) → topic_at ps s ≡ topic_of ps i → s ≡ n)
     → ((kind : Amount) → weight_at kind ps i first ≡ 0 → (minus kind ≡ 0) × (plus kind ≡ 0))
     → length mid ≡ length old
     → ((j : ℕ) → j < 8 → get_or mid j 0 + minus (kind_at j) ≡ get_or old j 0 + plus (kind_at j))
     → ((j : ℕ) → 8 ≤ j → get_or mid j 0 ≡ get_or old j 0)
-    → length new ≡ length mid
-    → get_or new (n + 8) 0 + minus (OfTopic n) ≡ get_or mid (n + 8) 0 + plus (OfTopic n)
-    → ((j : ℕ) → (j ≡ n + 8 → ⊥) → get_or new j 0 ≡ get_or mid j 0)
+    → length more ≡ length mid
+    → get_or more (2 * n + 8) 0 + minus (OfTopic n) ≡ get_or mid (2 * n + 8) 0 + plus (OfTopic n)
+    → ((j : ℕ) → (j ≡ 2 * n + 8 → ⊥) → get_or more j 0 ≡ get_or mid j 0)
+    → length new ≡ length more
+    → get_or new (2 * n + 9) 0 + minus (LedInTopic n) ≡ get_or more (2 * n + 9) 0 + plus (LedInTopic n)
+    → ((j : ℕ) → (j ≡ 2 * n + 9 → ⊥) → get_or new j 0 ≡ get_or more j 0)
     → IsChanged ps minus plus old new
-IsChanged-places ps i n first minus plus old mid new l m named only nothing long1 low rest long2 here others = record { long = long2 ∙ long1; each = each } where
+IsChanged-places ps i n first minus plus old mid more new l m named only nothing long1 low rest long2 here others long3 led elsewhere = record { long = long3 ∙ long2 ∙ long1; each = each } where
   plain : (j : ℕ) → j < 8 → get_or new j 0 + minus (kind_at j) ≡ get_or old j 0 + plus (kind_at j)
-  plain j k = omega (arith, others j (λ e. lt_irrefl j (omega arith)), low j k)
+  plain j k = omega (arith, elsewhere j (λ e. lt_irrefl j (omega arith)), others j (λ e. lt_irrefl j (omega arith)), low j k)
 
   each : (kind : Amount) → InRange kind ps → get_or new (column kind) 0 + minus kind ≡ get_or old (column kind) 0 + plus kind
   each (Load r) k = rw (kind_at-load r k) at (plain r (omega arith))
@@ -74,11 +87,17 @@ IsChanged-places ps i n first minus plus old mid new l m named only nothing long
   each Leaders k = plain 5 (omega arith)
   each PotentialOut k = plain 6 (omega arith)
   each LeaderIn k = plain 7 (omega arith)
-  each (OfTopic t) k = elim (cases_eq t n) as (λ _. get_or new (t + 8) 0 + minus (OfTopic t) ≡ get_or old (t + 8) 0 + plus (OfTopic t)) [
-    | inl e ↦ rw e (omega (arith, here, rest (n + 8) (omega arith)))
+  each (OfTopic t) k = elim (cases_eq t n) as (λ _. get_or new (2 * t + 8) 0 + minus (OfTopic t) ≡ get_or old (2 * t + 8) 0 + plus (OfTopic t)) [
+    | inl e ↦ rw e (omega (arith, here, rest (2 * n + 8) (omega arith), elsewhere (2 * n + 8) (λ e. lt_irrefl n (omega arith))))
     | inr ne ↦
-        let zeros = nothing (OfTopic t) (other_topic ps i n t l k named only ne first) in
-        omega (arith, others (t + 8) (λ e. ne (omega arith)), rest (t + 8) (omega arith), zeros.0, zeros.1)
+        let zeros = nothing (OfTopic t) (other_topic ps i n t l k named only ne first).0 in
+        omega (arith, elsewhere (2 * t + 8) (λ e. lt_irrefl n (omega arith)), others (2 * t + 8) (λ e. ne (omega arith)), rest (2 * t + 8) (omega arith), zeros.0, zeros.1)
+  ]
+  each (LedInTopic t) k = elim (cases_eq t n) as (λ _. get_or new (2 * t + 9) 0 + minus (LedInTopic t) ≡ get_or old (2 * t + 9) 0 + plus (LedInTopic t)) [
+    | inl e ↦ rw e (omega (arith, led, rest (2 * n + 9) (omega arith), others (2 * n + 9) (λ e. lt_irrefl n (omega arith))))
+    | inr ne ↦
+        let zeros = nothing (LedInTopic t) (other_topic ps i n t l k named only ne first).1 in
+        omega (arith, elsewhere (2 * t + 9) (λ e. ne (omega arith)), others (2 * t + 9) (λ e. lt_irrefl n (omega arith)), rest (2 * t + 9) (omega arith), zeros.0, zeros.1)
   ]
 
 abbrev if_so : Bool → ℕ → ℕ
@@ -180,7 +199,7 @@ IsTable-push c lists list rows new l h e each = record {
 }
 
 -- the table of no lists
-pub IsTable-none : (c : Cluster) (rows : List (List ℕ)) → length rows ≡ length c.brokers → ((k : ℕ) → k < length c.brokers → length (get_or rows k []) ≡ length (topics c.parts) + 8)
+pub IsTable-none : (c : Cluster) (rows : List (List ℕ)) → length rows ≡ length c.brokers → ((k : ℕ) → k < length c.brokers → length (get_or rows k []) ≡ columns c.parts)
     → ((k j : ℕ) → k < length c.brokers → get_or (get_or rows k []) j 0 ≡ 0) → IsTable c [] rows
 IsTable-none c rows e long nothing = record {
   one_each = e;

@@ -6,7 +6,7 @@ use Rattle.plan_terms.specs.Load.{list_load, sum_parts}
 use Rattle.plan_terms.specs.declared.cluster.Part.{Part}
 use Rattle.load_model.specs.Places.{topic_at}
 use Rattle.load_model.specs.declared.amounts.Amount.{Amount}
-use Rattle.load_model.specs.declared.amounts.Amount.TheVariants.{Load, Replicas, Leaders, PotentialOut, LeaderIn, OfTopic}
+use Rattle.load_model.specs.declared.amounts.Amount.TheVariants.{Load, Replicas, Leaders, PotentialOut, LeaderIn, OfTopic, LedInTopic}
 
 -- the resource is one of the four, and the topic one of the topics
 abbrev pub InRange : Amount → List Part → Type 0
@@ -16,6 +16,7 @@ InRange Leaders parts = Unit {0}
 InRange PotentialOut parts = Unit {0}
 InRange LeaderIn parts = Unit {0}
 InRange (OfTopic t) parts = t < length (topics parts)
+InRange (LedInTopic t) parts = t < length (topics parts)
 
 -- what the first place of a partition's list carries
 abbrev pub lead_of : Amount → List Part → Part → ℕ
@@ -25,6 +26,7 @@ lead_of Leaders parts p = 1
 lead_of PotentialOut parts p = slice_index p.loads.lead 2
 lead_of LeaderIn parts p = slice_index p.loads.lead 1
 lead_of (OfTopic t) parts p = if bytes_eq p.topic (topic_at parts t) then 1 else 0
+lead_of (LedInTopic t) parts p = if bytes_eq p.topic (topic_at parts t) then 1 else 0
 
 -- what each other place of it carries
 abbrev pub follow_of : Amount → List Part → Part → ℕ
@@ -34,6 +36,7 @@ follow_of Leaders parts p = 0
 follow_of PotentialOut parts p = slice_index p.loads.lead 2
 follow_of LeaderIn parts p = 0
 follow_of (OfTopic t) parts p = if bytes_eq p.topic (topic_at parts t) then 1 else 0
+follow_of (LedInTopic t) parts p = 0
 
 -- the same of the partition at place i
 abbrev pub lead_at : Amount → List Part → ℕ → ℕ
@@ -58,3 +61,4 @@ counts_places Leaders = true
 counts_places PotentialOut = false
 counts_places LeaderIn = false
 counts_places (OfTopic t) = true
+counts_places (LedInTopic t) = true

@@ -1,12 +1,16 @@
 -- The table of a book: a row for each broker, with a number for each kind of amount.
-use Rattle.std.specs.Prelude.{◌≡◌, ◌+◌, ◌<◌, ◌==◌, ℕ, Bool, List, [], length, get_or, nat_lt, if◌then◌else◌}
+use Rattle.std.specs.Prelude.{◌≡◌, ◌+◌, ◌*◌, ◌<◌, ◌==◌, ℕ, Bool, List, [], length, get_or, nat_lt, if◌then◌else◌}
 use Rattle.plan_terms.specs.Cluster.{Cluster, Lists}
 use Rattle.plan_terms.specs.Faults.{topics}
 use Rattle.plan_terms.specs.declared.cluster.Part.{Part}
 use Rattle.load_model.specs.Amounts.{InRange, amount, lead_at, follow_at}
 use Rattle.load_model.specs.Places.{id_at}
 use Rattle.load_model.specs.declared.amounts.Amount.{Amount}
-use Rattle.load_model.specs.declared.amounts.Amount.TheVariants.{Load, Replicas, Leaders, PotentialOut, LeaderIn, OfTopic}
+use Rattle.load_model.specs.declared.amounts.Amount.TheVariants.{Load, Replicas, Leaders, PotentialOut, LeaderIn, OfTopic, LedInTopic}
+
+-- how many numbers a row has: eight, and two for each topic
+abbrev pub columns : List Part → ℕ
+columns parts = 2 * length (topics parts) + 8
 
 -- the place of a kind in a row
 abbrev pub column : Amount → ℕ
@@ -15,7 +19,8 @@ column Replicas = 4
 column Leaders = 5
 column PotentialOut = 6
 column LeaderIn = 7
-column (OfTopic t) = t + 8
+column (OfTopic t) = 2 * t + 8
+column (LedInTopic t) = 2 * t + 9
 
 -- the kind at one of the first eight places
 abbrev pub kind_at : ℕ → Amount
@@ -36,7 +41,7 @@ pub record IsChanged (parts : List Part) (minus plus : Amount → ℕ) (old new 
 
 -- the row has what broker b carries
 pub record IsRow (parts : List Part) (b : ℕ) (lists : Lists) (row : List ℕ) : Type 0 where
-  pub long : length row ≡ length (topics parts) + 8
+  pub long : length row ≡ columns parts
   pub each : (kind : Amount) → InRange kind parts → get_or row (column kind) 0 ≡ amount kind parts b lists
 
 -- each broker's row has what it carries
@@ -46,7 +51,7 @@ pub record IsTable (c : Cluster) (lists : Lists) (rows : List (List ℕ)) : Type
 
 -- each broker's row is as long as there are kinds
 abbrev pub AreLong : Cluster → List (List ℕ) → Type 0
-AreLong c rows = (k : ℕ) → k < length c.brokers → length (get_or rows k []) ≡ length (topics c.parts) + 8
+AreLong c rows = (k : ℕ) → k < length c.brokers → length (get_or rows k []) ≡ columns c.parts
 
 -- each number of each broker's row is below the top
 abbrev pub AreBelow : ℕ → Cluster → List (List ℕ) → Type 0

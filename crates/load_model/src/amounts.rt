@@ -21,6 +21,8 @@ pub enum Amount {
     LeaderIn,
     /// One for each place in a topic, by the topic's place.
     OfTopic(usize),
+    /// One for each first place in a topic, by the topic's place.
+    LedInTopic(usize),
 }
 
 /// What the first place of a partition's list carries, and what each other place.
@@ -74,6 +76,7 @@ pub fn weights_at(case: &Case, kind: Amount, part: usize) -> Weights
         Amount::PotentialOut => evenly(loads.lead[2]),
         Amount::LeaderIn => at_first(loads.lead[1]),
         Amount::OfTopic(topic) => evenly(one_if(case.topic(part) == topic)),
+        Amount::LedInTopic(topic) => at_first(one_if(case.topic(part) == topic)),
     }
 }
 

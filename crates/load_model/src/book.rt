@@ -4,7 +4,7 @@ ghost use Rattle.plan_terms.specs.Belongs.{Belongs, IsAssignment};
 ghost use Rattle.plan_terms.specs.Cluster.{list_of, has, is_known};
 ghost use Rattle.plan_terms.specs.Effect.{exchange_at};
 ghost use Rattle.plan_terms.specs.Faults.{IsCase, topics};
-ghost use Rattle.plan_terms.specs.Load.{count, leaders, load, leader_in, potential_out, topic_count};
+ghost use Rattle.plan_terms.specs.Load.{count, leaders, load, leader_in, potential_out, topic_count, topic_leaders};
 ghost use Rattle.load_model.specs.Amounts.{InRange, amount, counts_places};
 ghost use Rattle.load_model.specs.Places.{id_at, topic_at};
 
@@ -48,6 +48,14 @@ impl LoadBook {
             lists: lists.copy(alloc)?,
             table: Table::new(alloc, case, lists)?,
         })
+    }
+
+    /// Sums afresh what the lists put on brokers. Out of memory, the book keeps its table.
+    pub fn resum(&mut self, alloc: Global) -> Result<(), Memory>
+        ensures { self.new ≡ self.old }
+    {
+        self.table = Table::new(alloc, &self.case, &self.lists)?;
+        Ok(())
     }
 
     /// The case that the book was made for.
@@ -155,6 +163,16 @@ impl LoadBook {
         ensures few { result ≤ 80000 }
     {
         self.amount(Amount::OfTopic(topic), broker)
+    }
+
+    /// The number of a topic's partitions that a broker leads, by the topic's place among the topics. At most 80,000.
+    pub fn topic_leaders(&self, topic: usize, broker: usize) -> u64
+        requires topic { topic < length (topics self.now.cluster.parts) }
+        requires broker { broker < length self.now.cluster.brokers }
+        ensures value { result ≡ topic_leaders self.now.cluster (topic_at self.now.cluster.parts topic) (id_at self.now.cluster.brokers broker) self.now.lists }
+        ensures few { result ≤ 80000 }
+    {
+        self.amount(Amount::LedInTopic(topic), broker)
     }
 
     /// Puts a broker of the case that is no member at one place of one list.

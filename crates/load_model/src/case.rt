@@ -2,12 +2,12 @@
 ghost use Rattle.std.specs.Prelude.{◌≡◌, ◌≤◌, ◌<◌, ◌^◌, ◌≢◌, ℕ, None, Some, IfOk, IfErr, OnOk, length, map, option_map, position, slice_index, ◌==◌};
 ghost use Rattle.std.specs.List.{All};
 ghost use Rattle.plan_terms.specs.Cluster.{broker_of};
-ghost use Rattle.plan_terms.specs.Faults.{IsCase, case_fault, topics};
+ghost use Rattle.plan_terms.specs.Faults.{IsCase, case_fault, cluster_fault, leaders_repeat, topics};
 ghost use Rattle.load_model.specs.Changed.{with_state, with_loads, with_excluded};
 ghost use Rattle.load_model.specs.Places.{AreTopicPlaces, id_at, topic_at, topic_of};
 
 use crate::limits::broken_limit;
-use crate::repeats::{broker_ids, part_repeat};
+use crate::repeats::{broker_ids, leaders_repeat, part_repeat};
 use crate::topics::{TopicPlaces, number_topics};
 use indexmap::IndexSet;
 use plan_terms::{Broker, BrokerState, CaseFault, Loads, Memory, Options, Part};
@@ -84,7 +84,8 @@ fn copy_parts(alloc: Global, parts: &[Part]) -> Result<Vec<Part>, Memory>
 impl Case {
     /// The case of these brokers and partitions, or their first fault: the first limit that is broken of brokers,
     /// topics, partitions, loads, capacities and chunks; then the first broker that stands twice; then the first
-    /// partition that stands twice.
+    /// partition that stands twice; then the first topic that the least leaders name twice.
+    #[tactic(auto, unfolding(plan_terms::specs::Faults::cluster_fault))]
     pub fn new(
         alloc: Global,
         brokers: Vec<Broker>,
@@ -93,10 +94,13 @@ impl Case {
     ) -> Result<Case, CaseFault>
         requires followers { All (λ p. slice_index p.loads.follow 2 ≡ 0) parts.items }
         ensures ok { IfOk result (λ c. c ≡ record { brokers = brokers.items; parts = parts.items; options = options }) }
-        ensures faultless { OnOk result (case_fault brokers.items parts.items ≡ None) }
-        ensures fault { IfErr result (λ e. e ≢ CaseFault.Memory → case_fault brokers.items parts.items ≡ Some e) }
+        ensures faultless { OnOk result (cluster_fault brokers.items parts.items options ≡ None) }
+        ensures fault { IfErr result (λ e. e ≢ CaseFault.Memory → cluster_fault brokers.items parts.items options ≡ Some e) }
     {
         let (ids, topics) = index_of(alloc, &brokers, &parts)?;
+        if let Some(fault) = leaders_repeat(alloc, options.min_leaders.as_slice())? {
+            return Err(fault);
+        }
         Ok(Case {
             brokers,
             parts,
@@ -210,7 +214,7 @@ impl Case {
         Ok(Case {
             brokers: copy_brokers(alloc, self.brokers.as_slice())?,
             parts: copy_parts(alloc, self.parts.as_slice())?,
-            options: self.options,
+            options: self.options.copy(alloc)?,
             ids: self.ids.clone()?,
             topics: self.topics.copy(alloc)?,
         })

@@ -5,7 +5,7 @@ ghost use Rattle.plan_terms.specs.Load.{list_load};
 ghost use Rattle.load_model.specs.declared.amounts.Amount.{Amount};
 ghost use Rattle.load_model.specs.Amounts.{InRange, lead_at, follow_at};
 ghost use Rattle.load_model.specs.Places.{id_at};
-ghost use Rattle.load_model.specs.Tables.{AreBelow, AreLong, IsChanged, IsTable, column, kind_at, put_on, weight_at};
+ghost use Rattle.load_model.specs.Tables.{AreBelow, AreLong, IsChanged, IsTable, column, columns, kind_at, put_on, weight_at};
 
 use crate::amounts::{Amount, weights_at};
 use crate::{Assign, Case};
@@ -45,7 +45,7 @@ impl Model for Table {
 fn column(case: &Case, kind: Amount) -> usize
     requires { InRange kind case.now.parts }
     ensures value { result ≡ column kind }
-    ensures within { result < length (topics case.now.parts) + 8 }
+    ensures within { result < columns case.now.parts }
 {
     let topics = case.topics();
     match kind {
@@ -54,7 +54,8 @@ fn column(case: &Case, kind: Amount) -> usize
         Amount::Leaders => 5,
         Amount::PotentialOut => 6,
         Amount::LeaderIn => 7,
-        Amount::OfTopic(topic) => topic + 8,
+        Amount::OfTopic(topic) => 2 * topic + 8,
+        Amount::LedInTopic(topic) => 2 * topic + 9,
     }
 }
 
@@ -132,7 +133,7 @@ impl Row {
     fn change_kind(&mut self, case: &Case, kind: Amount, part: usize, first: bool, gains: bool)
         requires range { InRange kind case.now.parts }
         requires part { part < length case.now.parts }
-        requires long { length self.old ≡ length (topics case.now.parts) + 8 }
+        requires long { length self.old ≡ columns case.now.parts }
         requires fits { slice_index self.old (column kind) < 2 ^ 63 }
         requires enough { gains ≡ false → weight_at kind case.now.parts part first ≤ slice_index self.old (column kind) }
         ensures long { length self.new ≡ length self.old }
@@ -147,7 +148,7 @@ impl Row {
     // Takes a place of a partition's list on or off.
     fn change(&mut self, case: &Case, part: usize, first: bool, gains: bool)
         requires part { part < length case.now.parts }
-        requires long { length self.old ≡ length (topics case.now.parts) + 8 }
+        requires long { length self.old ≡ columns case.now.parts }
         requires fits { (kind : Amount) → InRange kind case.now.parts → slice_index self.old (column kind) < 2 ^ 63 }
         requires enough { gains ≡ false → (kind : Amount) → InRange kind case.now.parts → weight_at kind case.now.parts part first ≤ slice_index self.old (column kind) }
         ensures { IsChanged case.now.parts (λ kind. if gains then 0 else weight_at kind case.now.parts part first) (λ kind. if gains then weight_at kind case.now.parts part first else 0) self.old self.new }
@@ -157,6 +158,7 @@ impl Row {
             self.change_kind(case, kind_at(j), part, first, gains);
         }
         self.change_kind(case, Amount::OfTopic(topic), part, first, gains);
+        self.change_kind(case, Amount::LedInTopic(topic), part, first, gains);
     }
 }
 
@@ -165,7 +167,7 @@ impl Table {
     fn empty(alloc: Global, case: &Case) -> Result<Table, Memory>
         ensures { IfOk result (IsTable case.now []) }
     {
-        let columns = case.topics() + 8;
+        let columns = 2 * case.topics() + 8;
         let mut rows = Vec::new(alloc);
         for _broker in case.brokers() {
             rows.push(Row::empty(alloc, columns)?)?;
@@ -247,7 +249,7 @@ impl Table {
     pub fn amount(&self, case: &Case, kind: Amount, broker: usize) -> u64
         requires range { InRange kind case.now.parts }
         requires one_each { length self.now ≡ length case.now.brokers }
-        requires long { length (get_or self.now broker []) ≡ length (topics case.now.parts) + 8 }
+        requires long { length (get_or self.now broker []) ≡ columns case.now.parts }
         requires broker { broker < length case.now.brokers }
         ensures { result ≡ slice_index (get_or self.now broker []) (column kind) }
     {

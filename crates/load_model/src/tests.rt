@@ -5,6 +5,7 @@ ghost use Rattle.plan_terms.specs.Belongs.{Belongs};
 
 use super::*;
 use crate::amounts::{Amount, amount_of};
+use plan_terms::{MinLeaders, MinLeadersList};
 use std::alloc::Global;
 use std::process::Abort;
 use std::test::Fail;
@@ -25,7 +26,14 @@ fn part(alloc: Global, topic: &str, number: u32, unit: u32) -> Result<Part, Fail
     })
 }
 
-fn options() -> Result<Options, Fail> {
+fn floor(alloc: Global, topic: &str) -> Result<MinLeaders, Fail> {
+    Ok(MinLeaders {
+        topic: Topic::new(String::from_str(alloc, topic)?),
+        leaders: 1,
+    })
+}
+
+fn options(alloc: Global) -> Result<Options, Fail> {
     let one = Ratio::new(1, 1).ok_or("no ratio")?;
     Ok(Options {
         limit: [one, one, one, one],
@@ -35,6 +43,7 @@ fn options() -> Result<Options, Fail> {
         topic_balance: one,
         max_replicas: 10,
         leads_only: false,
+        min_leaders: MinLeadersList::new(Vec::new(alloc)),
     })
 }
 
@@ -71,7 +80,7 @@ fn case(alloc: Global) -> Result<Case, Fail>
         alloc,
         brokers(alloc, [5, 6, 7])?,
         parts(alloc, 1)?,
-        options()?,
+        options(alloc)?,
     )?)
 }
 
@@ -98,8 +107,8 @@ fn loads(rt: &impl Abort, book: &LoadBook, broker: usize) -> [u128; 6] {
     ]
 }
 
-// Replicas, leaders, and the replicas in each topic.
-fn counts(rt: &impl Abort, book: &LoadBook, broker: usize) -> [u64; 4] {
+// Replicas, leaders, and the replicas and leaders in each topic.
+fn counts(rt: &impl Abort, book: &LoadBook, broker: usize) -> [u64; 6] {
     assert!(rt; broker < book.case().brokers().len());
     assert!(rt; book.case().topics() == 2);
     [
@@ -107,6 +116,8 @@ fn counts(rt: &impl Abort, book: &LoadBook, broker: usize) -> [u64; 4] {
         book.leaders(broker),
         book.topic_count(0, broker),
         book.topic_count(1, broker),
+        book.topic_leaders(0, broker),
+        book.topic_leaders(1, broker),
     ]
 }
 
@@ -132,9 +143,9 @@ fn reads_what_each_broker_carries(rt: HostRuntime) -> Result<(), Fail> {
     assert_eq!(rt; loads(&rt, &book, 0), [1010, 2020, 3030, 4040, 3030, 2020]);
     assert_eq!(rt; loads(&rt, &book, 1), [101, 202, 300, 404, 330, 200]);
     assert_eq!(rt; loads(&rt, &book, 2), [110, 220, 0, 440, 3300, 0]);
-    assert_eq!(rt; counts(&rt, &book, 0), [2, 2, 2, 0]);
-    assert_eq!(rt; counts(&rt, &book, 1), [2, 1, 1, 1]);
-    assert_eq!(rt; counts(&rt, &book, 2), [2, 0, 1, 1]);
+    assert_eq!(rt; counts(&rt, &book, 0), [2, 2, 2, 0, 2, 0]);
+    assert_eq!(rt; counts(&rt, &book, 1), [2, 1, 1, 1, 0, 1]);
+    assert_eq!(rt; counts(&rt, &book, 2), [2, 0, 1, 1, 0, 0]);
     Ok(())
 }
 
@@ -146,11 +157,11 @@ fn follows_a_put_and_an_exchange(rt: HostRuntime) -> Result<(), Fail> {
     put(&rt, &mut book, &case, 0, 1, 7);
     assert_eq!(rt; loads(&rt, &book, 1), [100, 200, 300, 400, 300, 200]);
     assert_eq!(rt; loads(&rt, &book, 2), [111, 222, 0, 444, 3330, 0]);
-    assert_eq!(rt; counts(&rt, &book, 2), [3, 0, 2, 1]);
+    assert_eq!(rt; counts(&rt, &book, 2), [3, 0, 2, 1, 0, 0]);
     exchange(&rt, &mut book, &case, 1, 1);
     assert_eq!(rt; loads(&rt, &book, 1), [10, 20, 0, 40, 300, 0]);
     assert_eq!(rt; loads(&rt, &book, 2), [201, 402, 300, 804, 3330, 200]);
-    assert_eq!(rt; counts(&rt, &book, 2), [3, 1, 2, 1]);
+    assert_eq!(rt; counts(&rt, &book, 2), [3, 1, 2, 1, 0, 1]);
     Ok(())
 }
 
@@ -190,15 +201,20 @@ fn tells_what_stands_twice(rt: HostRuntime) -> Result<(), Fail> {
         alloc,
         brokers(alloc, [5, 6, 5])?,
         parts(alloc, 1)?,
-        options()?,
+        options(alloc)?,
     );
     assert_eq!(rt; twice.err(), Some(CaseFault::DuplicateBroker(5)));
     let again = Case::new(
         alloc,
         brokers(alloc, [5, 6, 7])?,
         parts(alloc, 0)?,
-        options()?,
+        options(alloc)?,
     );
     assert_eq!(rt; again.err(), Some(CaseFault::DuplicatePartition(2)));
+    let mut options = options(alloc)?;
+    let floors = vec![in alloc; floor(alloc, "a")?, floor(alloc, "b")?, floor(alloc, "a")?]?;
+    options.min_leaders = MinLeadersList::new(floors);
+    let floors = Case::new(alloc, brokers(alloc, [5, 6, 7])?, parts(alloc, 1)?, options);
+    assert_eq!(rt; floors.err(), Some(CaseFault::DuplicateMinLeaders(2)));
     Ok(())
 }

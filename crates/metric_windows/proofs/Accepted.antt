@@ -2,8 +2,9 @@
 use Rattle.std.proofs.Common.{◌≡◌, ◌∙◌, ℕ, ◌<◌, ◌≤◌, Bool, true, false, cond, List, [], ◌∷◌, ◌++◌, length, Some, None, nat_le, sym, ap}
 use Rattle.metric_windows.specs.declared.tally.Tally.{Tally}
 use Rattle.metric_windows.specs.declared.fault.SampleFault.TheVariants.{TooOld, WindowFull}
-use Rattle.metric_windows.specs.Averages.{IsLoads}
-use Rattle.metric_windows.specs.Samples.{Sample, window_of, newest, is_past, oldest_kept, samples_in, refusal}
+use Rattle.plan_terms.specs.Loads.{IsLoads}
+use Rattle.metric_windows.specs.Samples.{window_of, newest, is_past, oldest_kept, samples_in, refusal}
+use Rattle.plan_terms.specs.declared.settings.Sample.{Sample}
 use Rattle.metric_windows.specs.Tables.{Tables, AreTables, tally_in, with_load, stored}
 use Rattle.metric_windows.specs.StandsFor.{StandsFor}
 use Rattle.metric_windows.proofs.Numbers.{le_test, no_le_from_lt}

@@ -2,7 +2,8 @@
 use Rattle.std.proofs.Common.{◌≡◌, ℕ, ◌+◌, ◌*◌, ◌/◌, ◌<◌, List, slice_index, arith}
 use Rattle.std.proofs.lemmas.Nat.{div_below}
 use Rattle.metric_windows.specs.declared.tally.Tally.{Tally}
-use Rattle.metric_windows.specs.Averages.{by_resource, divided, EachBelow, IsLoads}
+use Rattle.metric_windows.specs.Averages.{by_resource, divided}
+use Rattle.plan_terms.specs.Loads.{EachBelow, IsLoads}
 use Rattle.metric_windows.specs.Tables.{IsTally}
 
 quotient : (x n : ℕ) → 0 < n → x < n * 4294967295 + 1 → x / n < 4294967296

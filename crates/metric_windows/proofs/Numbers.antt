@@ -4,7 +4,8 @@ use Rattle.std.proofs.lemmas.Nat.{mod_below, same_from_place, mul-le}
 use Rattle.std.proofs.lemmas.Nat.{div-add-mod'}
 use Rattle.std.proofs.lemmas.Bool.{cases_lt}
 use Rattle.std.proofs.lemmas.Bool.Decides.{nat_tests}
-use Rattle.metric_windows.specs.Samples.{Rules, later, is_past}
+use Rattle.metric_windows.specs.Samples.{later, is_past}
+use Rattle.plan_terms.specs.declared.settings.WindowRules.{WindowRules}
 use Rattle.metric_windows.specs.Tables.{place}
 
 pub test_lt : (a b : ℕ) → a < b → nat_lt a b ≡ true
@@ -61,14 +62,14 @@ ahead_later (Some n) w i h =
     let m = max_below n w i (lt_from_test (max n w) i h) in
     (test_lt n i m.0, m.1)
 
-pub past_later : (rules : Rules) (o : Option ℕ) (w i : ℕ) → is_past rules (later o w) i ≡ false → (is_past rules o i ≡ false) × (w < i + rules.keep)
+pub past_later : (rules : WindowRules) (o : Option ℕ) (w i : ℕ) → is_past rules (later o w) i ≡ false → (is_past rules o i ≡ false) × (w < i + rules.keep)
 past_later rules None w i h = (refl, lt_from_no_le (i + rules.keep) w h)
 past_later rules (Some n) w i h =
     let m = max_below n w (i + rules.keep) (lt_from_no_le (i + rules.keep) (max n w) h) in
     (no_le_from_lt (i + rules.keep) n m.0, m.1)
 
 -- a window so far behind one that isn't past
-pub ahead_far : (rules : Rules) (o : Option ℕ) (w i : ℕ) → is_past rules o w ≡ false → w + rules.keep ≤ i → is_ahead o i ≡ true
+pub ahead_far : (rules : WindowRules) (o : Option ℕ) (w i : ℕ) → is_past rules o w ≡ false → w + rules.keep ≤ i → is_ahead o i ≡ true
 ahead_far rules None w i h l = refl
 ahead_far rules (Some n) w i h l =
     let m = lt_from_no_le (w + rules.keep) n h in

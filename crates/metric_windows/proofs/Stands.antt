@@ -7,8 +7,10 @@ use Rattle.std.proofs.lemmas.List.{map-append, append-nil, append_assoc, get_or-
 use Rattle.std.proofs.lemmas.List.Sums.{fold_push}
 use Rattle.std.proofs.lemmas.List.Elements.{filter-append, All-push, All-nil}
 use Rattle.metric_windows.specs.declared.cell.Cell.{Cell}
-use Rattle.metric_windows.specs.Averages.{IsLoads}
-use Rattle.metric_windows.specs.Samples.{Rules, Sample, window_of, later, newest, is_past, is_in, samples_in, refusal, AcceptedAfter}
+use Rattle.plan_terms.specs.Loads.{IsLoads}
+use Rattle.metric_windows.specs.Samples.{window_of, later, newest, is_past, is_in, samples_in, refusal, AcceptedAfter}
+use Rattle.plan_terms.specs.declared.settings.WindowRules.{WindowRules}
+use Rattle.plan_terms.specs.declared.settings.Sample.{Sample}
 use Rattle.metric_windows.specs.Tables.{Tables, AreTables, place, cell_of, tally_at, tally_in, tally_of, with_load, empty_cell, stored, after_sample}
 use Rattle.metric_windows.specs.StandsFor.{StandsFor}
 use Rattle.metric_windows.proofs.Numbers.{test_same, test_other, apart, same_place, is_ahead, ahead_later, past_later, ahead_far}
@@ -44,7 +46,7 @@ map_one true s = refl
 map_one false s = refl
 
 -- one sample more
-samples_in-push : (rules : Rules) (xs : List Sample) (s : Sample) (p i : ℕ) → samples_in rules (xs ++ s ∷ []) p i ≡ samples_in rules xs p i ++ cond (is_in rules p i s) (s.loads ∷ []) []
+samples_in-push : (rules : WindowRules) (xs : List Sample) (s : Sample) (p i : ℕ) → samples_in rules (xs ++ s ∷ []) p i ≡ samples_in rules xs p i ++ cond (is_in rules p i s) (s.loads ∷ []) []
 unfolding samples_in
 samples_in-push rules xs s p i =
     ap (λ ys. map (λ (z : Sample). z.loads) ys) (filter-append (is_in rules p i) xs (s ∷ []))
@@ -61,7 +63,7 @@ first_false a b e = ap (λ x. x && b) e
 both_true : (a b : Bool) → a ≡ true → b ≡ true → (a && b) ≡ true
 both_true a b e f = ap (λ x. x && b) e ∙ f
 
-none_ahead : (rules : Rules) (p i : ℕ) (o : Option ℕ) (xs : List Sample) → is_ahead (fold (λ n s. later n (window_of rules s.time)) o xs) i ≡ true → (is_ahead o i ≡ true) × (filter (is_in rules p i) xs ≡ [])
+none_ahead : (rules : WindowRules) (p i : ℕ) (o : Option ℕ) (xs : List Sample) → is_ahead (fold (λ n s. later n (window_of rules s.time)) o xs) i ≡ true → (is_ahead o i ≡ true) × (filter (is_in rules p i) xs ≡ [])
 none_ahead rules p i o [] h = (h, refl)
 none_ahead rules p i o (s ∷ ss) h =
     let r = none_ahead rules p i (later o (window_of rules s.time)) ss h in
@@ -70,11 +72,11 @@ none_ahead rules p i o (s ∷ ss) h =
     (q.0, ap (λ b. cond b (s ∷ filter (is_in rules p i) ss) (filter (is_in rules p i) ss)) off ∙ r.1)
 
 -- a window that no sample has reached has none
-pub samples_in-ahead : (rules : Rules) (xs : List Sample) (p i : ℕ) → is_ahead (newest rules xs) i ≡ true → samples_in rules xs p i ≡ []
+pub samples_in-ahead : (rules : WindowRules) (xs : List Sample) (p i : ℕ) → is_ahead (newest rules xs) i ≡ true → samples_in rules xs p i ≡ []
 unfolding newest samples_in
 samples_in-ahead rules xs p i h = ap (λ ys. map (λ (z : Sample). z.loads) ys) ((none_ahead rules p i None xs h).1)
 
-AcceptedAfter-push : (rules : Rules) (before xs : List Sample) (s : Sample) → AcceptedAfter rules before xs → refusal rules (before ++ xs) s ≡ None → AcceptedAfter rules before (xs ++ s ∷ [])
+AcceptedAfter-push : (rules : WindowRules) (before xs : List Sample) (s : Sample) → AcceptedAfter rules before xs → refusal rules (before ++ xs) s ≡ None → AcceptedAfter rules before (xs ++ s ∷ [])
 AcceptedAfter-push rules before [] s h r = (rw append-nil at r, tt)
 AcceptedAfter-push rules before (x ∷ xs) s h r = (h.0, AcceptedAfter-push rules (before ++ x ∷ []) xs s h.1 (rw append_assoc r))
 
@@ -82,7 +84,7 @@ none_then : {X : Type 0} (b : Bool) (e : X) (z : Option X) → cond b (Some e) z
 none_then true e z h = absurd (cc)
 none_then false e z h = (refl, h)
 
-not_in : (rules : Rules) (p i : ℕ) (s : Sample) → ((s.part ≡ p) × (window_of rules s.time ≡ i) → ⊥) → is_in rules p i s ≡ false
+not_in : (rules : WindowRules) (p i : ℕ) (s : Sample) → ((s.part ≡ p) × (window_of rules s.time ≡ i) → ⊥) → is_in rules p i s ≡ false
 not_in rules p i s h =
     elim (cases_eq s.part p) [
       | inl same ↦ both_false (s.part == p) (window_of rules s.time == i) (test_other (window_of rules s.time) i (λ e. h (same, e)))
@@ -111,10 +113,10 @@ cell_kept : (t : Tables) (s : Sample) (p i : ℕ) → place t.rules.keep p i ≢
 unfolding stored
 cell_kept t s p i ne = get_or-set_other t.cells (spot t s) (place t.rules.keep p i) (written t s) empty_cell ne
 
-samples_in-more : (rules : Rules) (xs : List Sample) (s : Sample) (p i : ℕ) → is_in rules p i s ≡ true → samples_in rules (xs ++ s ∷ []) p i ≡ samples_in rules xs p i ++ s.loads ∷ []
+samples_in-more : (rules : WindowRules) (xs : List Sample) (s : Sample) (p i : ℕ) → is_in rules p i s ≡ true → samples_in rules (xs ++ s ∷ []) p i ≡ samples_in rules xs p i ++ s.loads ∷ []
 samples_in-more rules xs s p i e = samples_in-push rules xs s p i ∙ ap (λ b. samples_in rules xs p i ++ cond b (s.loads ∷ []) []) e
 
-samples_in-other : (rules : Rules) (xs : List Sample) (s : Sample) (p i : ℕ) → is_in rules p i s ≡ false → samples_in rules (xs ++ s ∷ []) p i ≡ samples_in rules xs p i
+samples_in-other : (rules : WindowRules) (xs : List Sample) (s : Sample) (p i : ℕ) → is_in rules p i s ≡ false → samples_in rules (xs ++ s ∷ []) p i ≡ samples_in rules xs p i
 samples_in-other rules xs s p i e = samples_in-push rules xs s p i ∙ ap (λ b. samples_in rules xs p i ++ cond b (s.loads ∷ []) []) e ∙ append-nil (samples_in rules xs p i)
 
 module _ (t : Tables) (samples : List Sample) (s : Sample) (good : AreTables t) (stands : StandsFor t samples) (known : s.part < t.parts) (fine : IsLoads s.loads) (accepted : refusal t.rules samples s ≡ None) where

@@ -9,7 +9,9 @@ use Rattle.std.proofs.lemmas.List.Sums.{sum_by_from, sum_by_push}
 use Rattle.plan_terms.specs.declared.cluster.Loads.{Loads}
 use Rattle.metric_windows.specs.declared.tally.Tally.{Tally}
 use Rattle.metric_windows.specs.Averages.{mean_of}
-use Rattle.metric_windows.specs.Samples.{Rules, Sample, is_past, is_kept, oldest_kept, kept_windows, has_neighbours, half, samples_in, adjacent_value, window_value, values, enough_mean, load_of, coverage}
+use Rattle.metric_windows.specs.Samples.{is_past, is_kept, oldest_kept, kept_windows, has_neighbours, half, samples_in, adjacent_value, window_value, values, enough_mean, load_of, coverage}
+use Rattle.plan_terms.specs.declared.settings.WindowRules.{WindowRules}
+use Rattle.plan_terms.specs.declared.settings.Sample.{Sample}
 use Rattle.metric_windows.specs.Tables.{Tables, mean, joined, with_some, tally_in, tally_of, value_by, value_in, values_in}
 use Rattle.metric_windows.specs.StandsFor.{StandsFor}
 use Rattle.metric_windows.proofs.Numbers.{lt_from_test, no_le_from_lt, no_lt, test_lt, le_test}
@@ -22,14 +24,14 @@ mean-three : (B H A : List Loads) → mean (joined (joined (tally_of B) (tally_o
 mean-three B H A = ap mean (ap (λ y. joined y (tally_of A)) (sym (tally-append B H)) ∙ sym (tally-append (B ++ H) A))
 
 -- the value by tallies is that by samples
-value_by-samples : (rules : Rules) (nb : Bool) (B H A : List Loads) → 1 ≤ rules.least → value_by rules nb (tally_of B) (tally_of H) (tally_of A) ≡ cond (nat_le rules.least (length H) || nat_le (half rules) (length H)) (Some (mean_of H)) (adjacent_value rules nb B H A)
+value_by-samples : (rules : WindowRules) (nb : Bool) (B H A : List Loads) → 1 ≤ rules.least → value_by rules nb (tally_of B) (tally_of H) (tally_of A) ≡ cond (nat_le rules.least (length H) || nat_le (half rules) (length H)) (Some (mean_of H)) (adjacent_value rules nb B H A)
 unfolding value_by
 value_by-samples rules nb B H A some =
     ap (λ b. cond b (Some (mean_of H)) (cond (nb && (nat_le rules.least (length B) && nat_le rules.least (length A))) (Some (mean (joined (joined (tally_of B) (tally_of H)) (tally_of A)))) None)) (sym (either_half rules.least (length H) some))
     ∙ ap (λ m. cond (nat_le rules.least (length H) || nat_le (half rules) (length H)) (Some (mean_of H)) (cond (nb && (nat_le rules.least (length B) && nat_le rules.least (length A))) (Some m) None)) (mean-three B H A)
 
 -- the neighbours don't count where they aren't kept
-value_by-alone : (rules : Rules) (h b a c d : Tally) → value_by rules false b h a ≡ value_by rules false c h d
+value_by-alone : (rules : WindowRules) (h b a c d : Tally) → value_by rules false b h a ≡ value_by rules false c h d
 unfolding value_by
 value_by-alone rules h b a c d = refl
 
@@ -41,7 +43,7 @@ and_second : (a b : Bool) → (a && b) ≡ true → b ≡ true
 and_second true b h = h
 and_second false b h = absurd (cc)
 
-kept_open : (rules : Rules) (o : Option ℕ) (i : ℕ) → is_kept rules o i ≡ true → is_past rules o i ≡ false
+kept_open : (rules : WindowRules) (o : Option ℕ) (i : ℕ) → is_kept rules o i ≡ true → is_past rules o i ≡ false
 kept_open rules None i h = refl
 kept_open rules (Some n) i h = no_le_from_lt (i + rules.keep) n (lt_from_test n (i + rules.keep) (and_first (nat_lt n (i + rules.keep)) (nat_le i n) h))
 
@@ -76,7 +78,7 @@ filter_map-same f g q h (x ∷ xs) = next_same f g x (filter q xs) (q x) (h x) (
     next_same f g x rest true h e = let k = h refl in cc
     next_same f g x rest false h e = e
 
-kept_windows-same : (f g : ℕ → Option Loads) (rules : Rules) (o : Option ℕ) → ((i : ℕ) → is_kept rules o i ≡ true → f i ≡ g i) → filter_map f (kept_windows rules o) ≡ filter_map g (kept_windows rules o)
+kept_windows-same : (f g : ℕ → Option Loads) (rules : WindowRules) (o : Option ℕ) → ((i : ℕ) → is_kept rules o i ≡ true → f i ≡ g i) → filter_map f (kept_windows rules o) ≡ filter_map g (kept_windows rules o)
 unfolding kept_windows
 kept_windows-same f g rules None h = refl
 kept_windows-same f g rules (Some n) h = filter_map-same f g (is_kept rules (Some n)) h (range_with_len 0 (n + 1))
@@ -161,7 +163,7 @@ some-more f a k =
 split_kept : (n k : ℕ) → 1 ≤ k → n + 1 ≡ (n + 1 - k) + (n - (n + 1 - k) + 1)
 split_kept n k some = omega arith
 
-kept_range : (rules : Rules) (n : ℕ) → 1 ≤ rules.keep → kept_windows rules (Some n) ≡ range_with_len (oldest_kept rules (Some n)) (n - oldest_kept rules (Some n) + 1)
+kept_range : (rules : WindowRules) (n : ℕ) → 1 ≤ rules.keep → kept_windows rules (Some n) ≡ range_with_len (oldest_kept rules (Some n)) (n - oldest_kept rules (Some n) + 1)
 unfolding kept_windows
 kept_range rules n some =
     let a = oldest_kept rules (Some n) in

@@ -1,5 +1,5 @@
 -- Loads added up and averaged, number by number.
-use Rattle.std.specs.Prelude.{◌≡◌, ◌<◌, ◌/◌, ℕ, List, [], ◌∷◌, length, slice_index}
+use Rattle.std.specs.Prelude.{◌/◌, ℕ, List, [], ◌∷◌, length, slice_index}
 use Rattle.std.specs.List.{sum_by}
 use Rattle.plan_terms.specs.declared.cluster.Loads.{Loads}
 
@@ -24,16 +24,3 @@ divided x n = record {
 -- the average of each of the eight numbers, rounded down
 abbrev pub mean_of : List Loads → Loads
 mean_of xs = divided (total_of xs) (length xs)
-
--- the number of each resource is below the top
-pub record EachBelow (top : ℕ) (xs : List ℕ) : Type 0 where
-  pub cpu : slice_index xs 0 < top
-  pub nw_in : slice_index xs 1 < top
-  pub nw_out : slice_index xs 2 < top
-  pub disk : slice_index xs 3 < top
-
--- each number is below 2^32, and a follower sends nothing to clients
-pub record IsLoads (x : Loads) : Type 0 where
-  pub lead : EachBelow 4294967296 x.lead
-  pub follow : EachBelow 4294967296 x.follow
-  pub silent : slice_index x.follow 2 ≡ 0

@@ -1,8 +1,9 @@
 -- For which lists of samples the tables stand.
 use Rattle.std.specs.Prelude.{◌≡◌, ◌<◌, ℕ, false, List}
 use Rattle.std.specs.List.{All}
-use Rattle.metric_windows.specs.Averages.{IsLoads}
-use Rattle.metric_windows.specs.Samples.{Sample, AllAccepted, newest, is_past, samples_in}
+use Rattle.plan_terms.specs.Loads.{IsLoads}
+use Rattle.metric_windows.specs.Samples.{AllAccepted, newest, is_past, samples_in}
+use Rattle.plan_terms.specs.declared.settings.Sample.{Sample}
 use Rattle.metric_windows.specs.Tables.{Tables, tally_in, tally_of}
 
 -- each sample was accepted after those before it, the newest window is the list's, and so are the number and the sums of each partition in each window that isn't past

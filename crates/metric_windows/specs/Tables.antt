@@ -4,8 +4,10 @@ use Rattle.std.specs.List.{All, filter_map}
 use Rattle.plan_terms.specs.declared.cluster.Loads.{Loads}
 use Rattle.metric_windows.specs.declared.cell.Cell.{Cell}
 use Rattle.metric_windows.specs.declared.tally.Tally.{Tally}
-use Rattle.metric_windows.specs.Averages.{by_resource, total_of, divided, EachBelow}
-use Rattle.metric_windows.specs.Samples.{Rules, AreInRange, later, half, has_neighbours, kept_windows}
+use Rattle.metric_windows.specs.Averages.{by_resource, total_of, divided}
+use Rattle.plan_terms.specs.Loads.{EachBelow}
+use Rattle.metric_windows.specs.Samples.{AreInRange, later, half, has_neighbours, kept_windows}
+use Rattle.plan_terms.specs.declared.settings.WindowRules.{WindowRules}
 
 -- the tally of a list of loads: how many, and their total
 abbrev pub tally_of : List Loads → Tally
@@ -47,7 +49,7 @@ empty_cell = record { window = 0; tally = tally_of [] }
 
 -- the rules, the number of partitions, the greatest window of a sample, and the cells, partition by partition
 pub record Tables : Type 0 where
-  pub rules : Rules
+  pub rules : WindowRules
   pub parts : ℕ
   pub newest : Option ℕ
   pub cells : List Cell
@@ -91,7 +93,7 @@ with_some t None = t
 with_some t (Some x) = with_load t x
 
 -- the value of a window and its neighbours, from their tallies
-unfoldable pub value_by : Rules → Bool → Tally → Tally → Tally → Option Loads
+unfoldable pub value_by : WindowRules → Bool → Tally → Tally → Tally → Option Loads
 value_by rules neighbours before here after =
     if nat_le (half rules) here.count then Some (mean here) else (
     if neighbours && (nat_le rules.least before.count && nat_le rules.least after.count) then Some (mean (joined (joined before here) after)) else None)

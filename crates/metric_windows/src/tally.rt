@@ -1,6 +1,7 @@
 // How many loads there are, and their sums.
 ghost use Rattle.std.specs.Prelude.{◌≡◌, ◌<◌, ◌≤◌, ◌+◌, ◌/◌, [], slice_index};
-ghost use Rattle.metric_windows.specs.Averages.{by_resource, divided, IsLoads, EachBelow};
+ghost use Rattle.metric_windows.specs.Averages.{by_resource, divided};
+ghost use Rattle.plan_terms.specs.Loads.{EachBelow, IsLoads};
 ghost use Rattle.metric_windows.specs.Tables.{tally_of, added, with_load, joined, mean, IsTally};
 
 use plan_terms::{Loads, Res4};

@@ -1,6 +1,6 @@
 // Samples in windows of a second, three of which are kept.
 ghost use Rattle.std.specs.Prelude.{◌≡◌};
-ghost use Rattle.metric_windows.specs.Averages.{IsLoads};
+ghost use Rattle.plan_terms.specs.Loads.{IsLoads};
 
 use super::*;
 use std::process::Abort;

@@ -1,8 +1,9 @@
 // The windows of all partitions.
 ghost use Rattle.std.specs.Prelude.{◌≡◌, ◌<◌, ◌≤◌, ◌+◌, ◌++◌, ◌∷◌, [], List, Some, IfOk, IfErr, IfSome, OnOk, OnErr, length, is_some};
 ghost use Rattle.std.specs.Bool.{OnTrue};
-ghost use Rattle.metric_windows.specs.Averages.{IsLoads};
-ghost use Rattle.metric_windows.specs.Samples.{AreInRange, Sample, is_past, oldest_kept, has_neighbours, half, enough_mean, load_of, coverage, refusal};
+ghost use Rattle.plan_terms.specs.Loads.{IsLoads};
+ghost use Rattle.metric_windows.specs.Samples.{AreInRange, is_past, oldest_kept, has_neighbours, half, enough_mean, load_of, coverage, refusal};
+ghost use Rattle.plan_terms.specs.declared.settings.Sample.{Sample};
 ghost use Rattle.metric_windows.specs.StandsFor.{StandsFor};
 ghost use Rattle.metric_windows.specs.Tables.{place, tally_in, stored, with_some, value_in, values_in, tally_of, IsTally};
 

@@ -1,7 +1,11 @@
 // What a goal says of the lists and of an action.
 ghost use Rattle.goal_terms.specs.Pairs.{ColdPairs, IdleTrades};
 ghost use Rattle.goal_terms.specs.PerBroker.{id_at};
-ghost use Rattle.goal_terms.specs.Quantity.{Weights, part_weight};
+ghost use Rattle.goal_terms.specs.Limits.{SmallLoads, SmallWeights};
+ghost use Rattle.goal_terms.specs.Quantity.{Weights, part_weight, total};
+ghost use Rattle.goal_terms.specs.Rooms.{RoomsDecide};
+ghost use Rattle.goal_terms.specs.declared.room.Room.{Room};
+ghost use Rattle.plan_terms.specs.declared.cluster.Part.{Part};
 ghost use Rattle.goal_terms.specs.declared.heat.Heat.{Heat};
 ghost use Rattle.std.specs.Prelude.{◌≡◌, ◌<◌, ◌≤◌, ◌^◌, ◌↔◌, ℕ, IsTrue, IfSome, Option, option_map, length};
 ghost use Rattle.plan_terms.specs.Belongs.{Belongs, IsBookOf};
@@ -10,7 +14,7 @@ ghost use Rattle.plan_terms.specs.Faults.{IsCase};
 ghost use Rattle.plan_terms.specs.Fits.{fits, targets_known};
 ghost use Rattle.plan_terms.specs.Goal.{Meaning, Accepts, Lessens, measure};
 
-use goal_terms::Heat;
+use goal_terms::{Heat, Room};
 use load_model::{Case, LoadBook};
 use plan_terms::Action;
 
@@ -27,6 +31,9 @@ pub trait Goal {
 
     /// What the places of a list add to a broker's quantity, for a goal that has one.
     ghost weighs: { Self → Option Weights };
+
+    /// How much the broker of an id may give and take, for a goal that has a quantity of brokers.
+    ghost room_at: { Self → Cluster → Lists → ℕ → Room };
 
     /// Whether a plan fails where the goal stays broken.
     fn is_hard(&self, case: &Case) -> bool
@@ -75,6 +82,21 @@ pub trait Goal {
         requires part { part < length case.now.parts }
         ensures { result ≡ option_map (λ w. part_weight w case.now.parts part leads) (weighs self.now) };
 
+    /// What all brokers carry together, for a goal that has a quantity of brokers. No action changes it.
+    fn whole(&self, case: &Case, book: &LoadBook) -> Option<u128>
+        requires made { made_for self.now case.now }
+        requires belongs { IsBookOf case.now book.now }
+        ensures { result ≡ option_map (λ w. total w case.now.parts book.now.lists) (weighs self.now) };
+
+    /// How much the broker at a place may give and take, where all brokers carry `all` together. `None` where the goal has
+    /// no quantity of brokers.
+    fn room(&self, case: &Case, book: &LoadBook, all: u128, broker: usize) -> Option<Room>
+        requires made { made_for self.now case.now }
+        requires belongs { IsBookOf case.now book.now }
+        requires all { IfSome (weighs self.now) (λ w. all ≡ total w case.now.parts book.now.lists) }
+        requires broker { broker < length case.now.brokers }
+        ensures { result ≡ option_map (λ _. room_at self.now case.now book.now.lists (id_at case.now.brokers broker)) (weighs self.now) };
+
     /// Every measure is below 2^120.
     ghost small: { (g : Self) (c : Cluster) (lists : Lists) → made_for g c → IsCase c → Belongs c lists → measure (meaning g c) lists < 2 ^ 120 };
 
@@ -84,6 +106,12 @@ pub trait Goal {
     /// A trade of equal weights doesn't lessen it; nor does one that gives no less to a broker that isn't below its bounds
     /// and takes no less from one that isn't above them.
     ghost idle_trades: { (g : Self) (c : Cluster) (lists : Lists) → made_for g c → IsCase c → Belongs c lists → IfSome (weighs g) (IdleTrades (meaning g c) (heat_at g c lists) c.parts lists) };
+
+    /// It accepts an action exactly where the trade stays in the rooms of its two brokers.
+    ghost rooms_decide: { (g : Self) (c : Cluster) (lists : Lists) → made_for g c → IsCase c → Belongs c lists → IfSome (weighs g) (RoomsDecide (meaning g c) (room_at g c lists) c.parts lists) };
+
+    /// No place of a list adds more to a quantity than a load value may be.
+    ghost small_weights: { (g : Self) (p : Part) → SmallLoads p → IfSome (weighs g) (λ w. SmallWeights w p) };
 }
 
 /// The sum of a goal's excesses, below 2^120. The goal is met where it is 0.

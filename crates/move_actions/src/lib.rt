@@ -7,7 +7,7 @@ mod legality;
 mod listing;
 
 pub use effects::{Moves, place_of};
-pub use goal_terms::Heat;
+pub use goal_terms::{Heat, Room};
 pub use goals::{Goal, measure};
 pub use legality::{is_lost, legal};
 pub use listing::{all_actions, legal_leads, legal_moves, legal_swaps};

@@ -43,6 +43,7 @@ pub kind_called-name_of : (k : GoalKind) → kind_called (name_of k) ≡ Some k
 unfolding kind_called
 kind_called-name_of kind.Evacuation = refl
 kind_called-name_of kind.RackAware = refl
+kind_called-name_of kind.MinTopicLeadersPerBroker = refl
 kind_called-name_of kind.ReplicaCapacity = refl
 kind_called-name_of kind.DiskCapacity = refl
 kind_called-name_of kind.NetworkInboundCapacity = refl

@@ -55,20 +55,16 @@ fn action_fault<G: Goal>(
     None
 }
 
-// A book of the lists after the action, summed afresh: no sum that the action changed in the old book is used.
-fn resummed(
-    alloc: Global,
-    case: &Case,
-    mut book: LoadBook,
-    action: Action,
-) -> Result<LoadBook, Memory>
-    requires belongs { IsBookOf case.now book }
-    requires legal { IsTrue (is_legal case.now book.lists action) }
-    ensures { IfOk result (λ b. b ≡ record { cluster = case.now; lists = after action book.lists }) }
+// Applies the action, and sums the loads afresh: no sum that the action changed in the book is used.
+fn take_step(alloc: Global, case: &Case, book: &mut LoadBook, action: Action) -> Result<(), Memory>
+    requires belongs { IsBookOf case.now book.old }
+    requires legal { IsTrue (is_legal case.now book.old.lists action) }
+    ensures lists { book.new.lists ≡ after action book.old.lists }
+    ensures cluster { book.new.cluster ≡ book.old.cluster }
 {
     book.apply(case, action);
-    let lists = book.into_lists();
-    LoadBook::new(alloc, case, &lists)
+    book.resum(alloc)?;
+    Ok(())
 }
 
 // Follows the actions of a goal's turn.
@@ -93,7 +89,7 @@ fn judge_turn<G: Goal>(
                 kind,
             });
         }
-        here = resummed(alloc, case, here, *action)?;
+        take_step(alloc, case, &mut here, *action)?;
     }
     if measure(goal, case, &here) == 0 {
         return Ok(TurnEnd::Done(here));

@@ -10,3 +10,4 @@ pub mod OnceLemmas
 pub mod PartitionLemmas
 pub mod RackLemmas
 pub mod Runs
+pub mod SameLemmas

@@ -1,5 +1,5 @@
 -- What the lists of a cluster keep.
-use Rattle.std.specs.Prelude.{◌≡◌, ◌≤◌, ℕ, Bool, true, not, ◌&&◌, List, [], ◌∷◌, length}
+use Rattle.std.specs.Prelude.{◌≡◌, ◌≤◌, ℕ, Bool, true, not, ◌&&◌, List, [], ◌∷◌, length, map}
 use Rattle.std.specs.List.{All, list_all}
 use Rattle.plan_terms.specs.Cluster.{Cluster, Lists, has, is_known}
 
@@ -29,12 +29,19 @@ pub record Belongs (c : Cluster) (lists : Lists) : Type 0 where
   pub lists_are : AreReplicaLists lists
   pub known : All (λ list. list_all (is_known c) list ≡ true) lists
 
--- the lists of a plan in the making, with the cluster whose loads they put on brokers
+-- the lists of a plan in the making, with a cluster whose loads they put on brokers
 pub record Book : Type 0 where
   pub cluster : Cluster
   pub lists : Lists
 
--- the book was made for the cluster as it stands, and its lists belong to it
+-- lists put the same on the brokers of both clusters: their brokers have the same ids, and their partitions the same topics and
+-- loads. States, exclusions, options, racks and capacities may differ.
+pub record SameLoads (c d : Cluster) : Type 0 where
+  pub ids : map (λ b. b.id) c.brokers ≡ map (λ b. b.id) d.brokers
+  pub topics : map (λ p. p.topic) c.parts ≡ map (λ p. p.topic) d.parts
+  pub loads : map (λ p. p.loads) c.parts ≡ map (λ p. p.loads) d.parts
+
+-- what the book puts on brokers is what its lists put on those of the cluster, to which they belong
 pub record IsBookOf (c : Cluster) (b : Book) : Type 0 where
-  pub cluster_is : b.cluster ≡ c
+  pub same_loads : SameLoads b.cluster c
   pub lists_belong : Belongs c b.lists

@@ -1,5 +1,5 @@
 -- Numbers written in decimal digits.
-use Rattle.std.specs.Prelude.{ℕ, ◌+◌, ◌-◌, ◌*◌, ◌==◌, Bool, ◌&&◌, nat_le, nat_lt, List, [], ◌∷◌, length, Option, Some, None, if◌then◌else◌}
+use Rattle.std.specs.Prelude.{ℕ, ◌+◌, ◌-◌, ◌*◌, ◌==◌, Bool, ◌&&◌, nat_le, nat_lt, List, [], ◌∷◌, length, slice_index, Option, Some, None, if◌then◌else◌}
 use Rattle.std.specs.List.{list_all, position_or_len}
 
 -- an ASCII digit
@@ -22,3 +22,7 @@ is_point b = b == 46
 -- a point stands in the text
 abbrev pub has_point : List ℕ → Bool
 has_point text = nat_lt (position_or_len is_point text) (length text)
+
+-- a whole number in decimal digits, without a sign and without a leading zero; `0` itself is good
+unfoldable pub whole_of : List ℕ → Option ℕ
+whole_of text = if nat_lt 1 (length text) && (slice_index text 0 == 48) then None else number_of 19 text

@@ -20,6 +20,7 @@ options = record {
   topic_balance = one;
   max_replicas = 10;
   leads_only = false;
+  min_leaders = [];
 }
 
 abbrev broker : ℕ → List ℕ → BrokerState → Broker

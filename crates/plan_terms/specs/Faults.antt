@@ -3,9 +3,11 @@ use Rattle.std.specs.Prelude.{◌≡◌, slice_index, ℕ, suc, Bool, not, ◌==
 use Rattle.std.specs.List.{All, list_any}
 use Rattle.plan_terms.specs.Cluster.{Cluster, Lists, has, is_known}
 use Rattle.plan_terms.specs.declared.cluster.Broker.{Broker}
+use Rattle.plan_terms.specs.declared.cluster.MinLeaders.{MinLeaders}
+use Rattle.plan_terms.specs.declared.cluster.Options.{Options}
 use Rattle.plan_terms.specs.declared.cluster.Part.{Part}
 use Rattle.plan_terms.specs.declared.faults.CaseFault.{CaseFault}
-use Rattle.plan_terms.specs.declared.faults.CaseFault.TheVariants.{DuplicateBroker, DuplicatePartition, UnknownBroker, DuplicateReplica, EmptyReplicas, OverLimit}
+use Rattle.plan_terms.specs.declared.faults.CaseFault.TheVariants.{DuplicateBroker, DuplicatePartition, UnknownBroker, DuplicateReplica, EmptyReplicas, OverLimit, DuplicateMinLeaders}
 use Rattle.plan_terms.specs.declared.faults.Limit.{Limit}
 use Rattle.plan_terms.specs.declared.faults.Limit.TheVariants as limit
 
@@ -49,6 +51,9 @@ same_id a b = a.id == b.id
 abbrev pub same_part : Part → Part → Bool
 same_part p q = (p.number == q.number) && bytes_eq p.topic q.topic
 
+abbrev pub same_topic : MinLeaders → MinLeaders → Bool
+same_topic m n = bytes_eq m.topic n.topic
+
 -- the first limit that is broken
 unfoldable pub broken_limit : List Broker → List Part → Option Limit
 broken_limit brokers parts =
@@ -71,6 +76,14 @@ part_repeat parts = option_map DuplicatePartition (first_repeat same_part parts)
 unfoldable pub case_fault : List Broker → List Part → Option CaseFault
 case_fault brokers parts = first_of (option_map OverLimit (broken_limit brokers parts)) (first_of (broker_repeat brokers) (part_repeat parts))
 
+-- the first of the least leaders whose topic an earlier one names
+unfoldable pub leaders_repeat : List MinLeaders → Option CaseFault
+leaders_repeat min_leaders = option_map DuplicateMinLeaders (first_repeat same_topic min_leaders)
+
+-- the first fault of a cluster: that of its brokers and partitions, then a topic that the least leaders name twice
+unfoldable pub cluster_fault : List Broker → List Part → Options → Option CaseFault
+cluster_fault brokers parts options = first_of (case_fault brokers parts) (leaders_repeat options.min_leaders)
+
 -- the first fault among the members of partition p's list, where `seen` came before
 abbrev pub member_fault : Cluster → ℕ → List ℕ → List ℕ → Option CaseFault
 member_fault c p seen [] = None
@@ -92,7 +105,9 @@ lists_fault_from c p (list ∷ lists) = first_of (list_fault c p list) (lists_fa
 unfoldable pub lists_fault : Cluster → Lists → Option CaseFault
 lists_fault c lists = lists_fault_from c 0 lists
 
--- brokers and partitions within the limits and without repetition, whose followers send nothing to clients
+-- brokers and partitions within the limits and without repetition, whose followers send nothing to clients, and least leaders of
+-- topics that differ
 pub record IsCase (c : Cluster) : Type 0 where
   pub faultless : case_fault c.brokers c.parts ≡ None
+  pub topics_once : leaders_repeat c.options.min_leaders ≡ None
   pub followers : All (λ p. slice_index p.loads.follow 2 ≡ 0) c.parts

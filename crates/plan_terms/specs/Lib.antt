@@ -11,6 +11,7 @@ pub mod Goal
 pub mod Laws
 pub mod Legal
 pub mod Load
+pub mod Loads
 pub mod Racks
 pub mod States
 pub mod Trace

@@ -1,5 +1,5 @@
 -- What brokers carry: sums over the lists, made afresh.
-use Rattle.std.specs.Prelude.{ℕ, ◌+◌, ◌*◌, ◌==◌, List, [], ◌∷◌, slice_index, bytes_eq, if◌then◌else◌}
+use Rattle.std.specs.Prelude.{ℕ, ◌+◌, ◌*◌, ◌==◌, ◌&&◌, List, [], ◌∷◌, slice_index, bytes_eq, if◌then◌else◌}
 use Rattle.std.specs.List.{count_by, sum_by}
 use Rattle.plan_terms.specs.Cluster.{Cluster, Lists, leads}
 use Rattle.plan_terms.specs.declared.cluster.Part.{Part}
@@ -30,6 +30,10 @@ load c r b lists = sum_parts (λ p list. list_load (slice_index p.loads.lead r) 
 -- how many places broker b has in a topic
 abbrev pub topic_count : Cluster → List ℕ → ℕ → Lists → ℕ
 topic_count c topic b lists = sum_parts (λ p list. if bytes_eq p.topic topic then count_by (λ x. x == b) list else 0) c.parts lists
+
+-- how many first places broker b has in a topic
+abbrev pub topic_leaders : Cluster → List ℕ → ℕ → Lists → ℕ
+topic_leaders c topic b lists = sum_parts (λ p list. if bytes_eq p.topic topic && leads list b then 1 else 0) c.parts lists
 
 -- what b would send if it led every partition of which it is a member: the leaders' NW_OUT over all its places
 abbrev pub potential_out : Cluster → ℕ → Lists → ℕ

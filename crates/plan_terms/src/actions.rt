@@ -1,5 +1,5 @@
 // Actions, and lists of them.
-ghost use Rattle.std.specs.Prelude.{◌≡◌, [], ◌∷◌, ◌++◌, OnOk, OnErr};
+ghost use Rattle.std.specs.Prelude.{◌≡◌, [], ◌∷◌, ◌++◌, IfOk, OnOk, OnErr};
 
 use crate::Memory;
 use std::alloc::Global;
@@ -67,5 +67,14 @@ impl Actions {
     {
         self.items.push(action)?;
         Ok(())
+    }
+
+    /// The same actions.
+    pub fn copy(&self, alloc: Global) -> Result<Actions, Memory>
+        ensures { IfOk result (λ a. a ≡ self.now) }
+    {
+        Ok(Actions {
+            items: Vec::from_slice(alloc, self.as_slice())?,
+        })
     }
 }

@@ -5,6 +5,7 @@ ghost use Rattle.plan_terms.specs.States.{is_dead, is_new, is_demoted};
 
 use crate::{Memory, RackName, Ratio, Topic};
 use std::alloc::Global;
+use std::marker::Model;
 
 /// Four numbers, one for each resource: CPU, NW_IN, NW_OUT, DISK.
 pub type Res4 = [u64; 4];
@@ -111,8 +112,70 @@ impl Part {
     }
 }
 
+/// How many partitions of a topic each broker that may lead is to lead at least.
+#[derive(Drop)]
+pub struct MinLeaders {
+    pub topic: Topic,
+    /// 1 to 10,000 in a cluster file.
+    pub leaders: u32,
+}
+
+impl MinLeaders {
+    /// The same topic and number.
+    pub fn copy(&self, alloc: Global) -> Result<MinLeaders, Memory>
+        ensures { IfOk result (λ m. m ≡ self.now) }
+    {
+        Ok(MinLeaders {
+            topic: self.topic.copy(alloc)?,
+            leaders: self.leaders,
+        })
+    }
+}
+
+/// Topics with their least numbers of leaders, in the order in which the file names them.
+#[derive(Drop)]
+pub struct MinLeadersList {
+    items: Vec<MinLeaders>,
+}
+
+impl Model for MinLeadersList {
+    ghost use Rattle.std.specs.Prelude.{List};
+    ghost use Rattle.plan_terms.specs.declared.cluster.MinLeaders.{MinLeaders};
+
+    ghost Value = { List MinLeaders };
+
+    ghost view = { λ l. l.items.items };
+}
+
+impl MinLeadersList {
+    /// The list of these.
+    pub fn new(items: Vec<MinLeaders>) -> Self
+        ensures { result ≡ items.items }
+    {
+        MinLeadersList { items }
+    }
+
+    /// The members, in order.
+    pub fn as_slice(&self) -> &[MinLeaders]
+        ensures { result.now ≡ self.now }
+    {
+        self.items.as_slice()
+    }
+
+    /// The same list.
+    pub fn copy(&self, alloc: Global) -> Result<Self, Memory>
+        ensures { IfOk result (λ l. l ≡ self.now) }
+    {
+        let mut items = Vec::new(alloc);
+        for item in &self.items {
+            items.push(item.copy(alloc)?)?;
+        }
+        Ok(MinLeadersList { items })
+    }
+}
+
 /// The thresholds of the goals, and what a request allows.
-#[derive(Clone, Copy)]
+#[derive(Drop)]
 pub struct Options {
     /// By resource: the share of a capacity that may be used.
     pub limit: [Ratio; 4],
@@ -125,4 +188,24 @@ pub struct Options {
     pub max_replicas: u32,
     /// Whether only leaders may change, moves off lost brokers aside.
     pub leads_only: bool,
+    /// How many partitions of a topic each broker is to lead at least.
+    pub min_leaders: MinLeadersList,
+}
+
+impl Options {
+    /// The same options.
+    pub fn copy(&self, alloc: Global) -> Result<Options, Memory>
+        ensures { IfOk result (λ o. o ≡ self.now) }
+    {
+        Ok(Options {
+            limit: self.limit,
+            balance: self.balance,
+            replica_balance: self.replica_balance,
+            leader_balance: self.leader_balance,
+            topic_balance: self.topic_balance,
+            max_replicas: self.max_replicas,
+            leads_only: self.leads_only,
+            min_leaders: self.min_leaders.copy(alloc)?,
+        })
+    }
 }

@@ -1,7 +1,7 @@
 // Numbers written in decimal digits.
 ghost use Rattle.std.specs.Prelude.{◌≡◌, ◌≤◌, ◌<◌, ◌^◌, true, Some, IfSome, IsSome, length};
 ghost use Rattle.std.specs.List.{list_all};
-ghost use Rattle.plan_terms.specs.Digits.{is_digit, number_after, number_of};
+ghost use Rattle.plan_terms.specs.Digits.{is_digit, number_after, number_of, whole_of};
 
 fn are_digits(text: &str) -> bool
     ensures { result ≡ list_all is_digit text.now }
@@ -34,5 +34,19 @@ pub fn read_digits(text: &str, most: usize) -> Option<u64>
         parse(text, most)
     } else {
         None
+    }
+}
+
+/// The whole number, below 10^19, that a text writes in ASCII digits without a leading zero: `0` itself is good; a sign, a
+/// blank or no digit is not.
+#[tactic(auto, unfolding(crate::specs::Digits::whole_of))]
+pub fn read_whole(text: &str) -> Option<u64>
+    ensures value { result ≡ whole_of text.now }
+{
+    let is_long = text.len() > 1;
+    if is_long && text.as_bytes()[0] == b'0' {
+        None
+    } else {
+        read_digits(text, 19)
     }
 }

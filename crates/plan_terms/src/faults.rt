@@ -66,6 +66,9 @@ pub enum CaseFault {
     EmptyReplicas(usize),
     #[error("over the limit: {0}")]
     OverLimit(Limit),
+    /// The place of the first member of the least leaders that names the topic of an earlier one.
+    #[error("least leaders {0} name a topic twice")]
+    DuplicateMinLeaders(usize),
 }
 
 impl From<AllocError> for CaseFault {

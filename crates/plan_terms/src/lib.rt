@@ -9,11 +9,12 @@ mod faults;
 mod laws;
 mod lists;
 mod ratio;
+mod settings;
 mod texts;
 
 pub use actions::{Action, Actions};
-pub use cluster::{Broker, BrokerState, Loads, Options, Part, Res4};
-pub use digits::read_digits;
+pub use cluster::{Broker, BrokerState, Loads, MinLeaders, MinLeadersList, Options, Part, Res4};
+pub use digits::{read_digits, read_whole};
 pub use faults::{CaseFault, Limit, Memory};
 pub use laws::{
     definitions_on_examples, each_action_is_listed_once, legal_actions_keep_lists,
@@ -21,4 +22,5 @@ pub use laws::{
 };
 pub use lists::{Proposal, Replicas};
 pub use ratio::Ratio;
+pub use settings::{Caps, Measured, Sample, WindowRules};
 pub use texts::{GoalName, RackName, Topic};

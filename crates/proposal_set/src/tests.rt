@@ -3,7 +3,7 @@ ghost use Rattle.std.specs.Prelude.{◌≡◌, IfOk, length, slice_index};
 
 use super::*;
 use load_model::{Assign, Case};
-use plan_terms::{Broker, BrokerState, Loads, Options, Part, Ratio, Topic};
+use plan_terms::{Broker, BrokerState, Loads, MinLeadersList, Options, Part, Ratio, Topic};
 use std::alloc::Global;
 use std::test::Fail;
 
@@ -22,7 +22,7 @@ fn part(alloc: Global, topic: &str, number: u32) -> Result<Part, Fail>
     })
 }
 
-fn options() -> Result<Options, Fail> {
+fn options(alloc: Global) -> Result<Options, Fail> {
     let one = Ratio::new(1, 1).ok_or("no ratio")?;
     Ok(Options {
         limit: [one, one, one, one],
@@ -32,6 +32,7 @@ fn options() -> Result<Options, Fail> {
         topic_balance: one,
         max_replicas: 10,
         leads_only: false,
+        min_leaders: MinLeadersList::new(Vec::new(alloc)),
     })
 }
 
@@ -56,7 +57,7 @@ fn case(alloc: Global) -> Result<Case, Fail>
     let second = part(alloc, "logs", 7)?;
     let third = part(alloc, "a\"b", 0)?;
     let parts = vec![in alloc; first, second, third]?;
-    Ok(Case::new(alloc, brokers(alloc)?, parts, options()?)?)
+    Ok(Case::new(alloc, brokers(alloc)?, parts, options(alloc)?)?)
 }
 
 fn assignment(alloc: Global, case: &Case, lists: [[u32; 2]; 3]) -> Result<Assign, Fail>

@@ -1,6 +1,7 @@
 // Goals with one unit for each partition, whose excess is a number of its list.
 ghost use Rattle.goal_terms.specs.Heats.{partition_heat};
 ghost use Rattle.goal_terms.specs.PerBroker.{id_at};
+ghost use Rattle.goal_terms.specs.Rooms.{free};
 ghost use Rattle.std.specs.List.{list_any};
 ghost use Rattle.std.specs.Prelude.{◌≡◌, ℕ, Bool, ◌<◌, ◌≤◌, ◌^◌, ◌↔◌, ◌&&◌, nat_lt, IsTrue, List, length, take, slice_set, false, ◌+◌, None};
 ghost use Rattle.plan_terms.specs.Cluster.{Cluster, Lists, list_of, has, leads};
@@ -8,7 +9,7 @@ ghost use Rattle.plan_terms.specs.Effect.{replace, exchange_first, after};
 ghost use Rattle.plan_terms.specs.Goal.{Meaning, Accepts, Lessens, per_partition};
 
 use load_model::{Case, LoadBook, Replicas};
-use move_actions::{Goal, Heat, place_of};
+use move_actions::{Goal, Heat, Room, place_of};
 use plan_terms::Action;
 
 /// What a goal asks of one list.
@@ -127,6 +128,8 @@ impl<R: ListRule> Goal for PartitionGoal<R> {
 
     ghost weighs = { λ _. None };
 
+    ghost room_at = { λ _ _ _ _. free };
+
     fn is_hard(&self, _case: &Case) -> bool {
         self.rule.is_hard()
     }
@@ -205,9 +208,21 @@ impl<R: ListRule> Goal for PartitionGoal<R> {
         None
     }
 
+    fn whole(&self, _case: &Case, _book: &LoadBook) -> Option<u128> {
+        None
+    }
+
+    fn room(&self, _case: &Case, _book: &LoadBook, _all: u128, _broker: usize) -> Option<Room> {
+        None
+    }
+
     ghost small = { λ g c lists _ is_case fits. let limits = Limits-case c is_case in per_partition-fits_120_bits (R.hard g.rule) (R.list_excess g.rule c) c lists fits limits.few_parts (R.within g.rule c) };
 
     ghost cold_pairs = { λ g c lists _ _ fits. partition-cold_pairs (R.list_excess g.rule c) (R.hard g.rule) c lists fits };
 
     ghost idle_trades = { λ _ _ _ _ _ _. tt };
+
+    ghost rooms_decide = { λ _ _ _ _ _ _. tt };
+
+    ghost small_weights = { λ _ _ _. tt };
 }

@@ -31,7 +31,7 @@ const LISTS: [(&[&str], bool, &str); 6] = [
     (
         &["RackAwareGoal"],
         false,
-        "MissingHardGoal(ReplicaCapacity)",
+        "MissingHardGoal(GoalName { text: \"MinTopicLeadersPerBrokerGoal\" })",
     ),
     (
         &["EvacuationGoal"],
@@ -55,7 +55,7 @@ const LISTS: [(&[&str], bool, &str); 6] = [
     (
         &[],
         false,
-        "[Evacuation, RackAware, ReplicaCapacity, DiskCapacity, NetworkInboundCapacity, NetworkOutboundCapacity, CpuCapacity, Demotion, ReplicaDistribution, PotentialNwOut, DiskUsageDistribution, NetworkInboundUsageDistribution, NetworkOutboundUsageDistribution, CpuUsageDistribution, TopicReplicaDistribution, LeaderReplicaDistribution, LeaderBytesInDistribution]",
+        "[Evacuation, RackAware, MinTopicLeadersPerBroker, ReplicaCapacity, DiskCapacity, NetworkInboundCapacity, NetworkOutboundCapacity, CpuCapacity, Demotion, ReplicaDistribution, PotentialNwOut, DiskUsageDistribution, NetworkInboundUsageDistribution, NetworkOutboundUsageDistribution, CpuUsageDistribution, TopicReplicaDistribution, LeaderReplicaDistribution, LeaderBytesInDistribution]",
     ),
 ];
 

@@ -8,6 +8,7 @@ use load_model::{
     Assign, Broker, BrokerState, Case, LoadBook, Loads, Options, Part, RackName, Ratio, Topic,
 };
 use move_actions::{Action, Goal, Moves, legal};
+use plan_terms::{MinLeaders, MinLeadersList};
 use std::alloc::Global;
 use std::process::Abort;
 use std::test::Fail;
@@ -95,21 +96,41 @@ fn ratio(num: u32, den: u32) -> Result<Ratio, Fail> {
     Ok(Ratio::new(num, den).ok_or("no ratio")?)
 }
 
-// Ratios that differ by resource and by goal, and limits that the loads exceed.
-fn options() -> Result<Options, Fail> {
+fn floor(alloc: Global, topic: &str, leaders: u32) -> Result<MinLeaders, Fail> {
+    Ok(MinLeaders {
+        topic: Topic::new(String::from_str(alloc, topic)?),
+        leaders,
+    })
+}
+
+fn small_balance() -> Result<[Ratio; 4], Fail> {
+    Ok([
+        ratio(11, 10)?,
+        ratio(12, 10)?,
+        ratio(13, 10)?,
+        ratio(14, 10)?,
+    ])
+}
+
+fn most_balance() -> Result<[Ratio; 4], Fail> {
+    let one = ratio(1000, 1000)?;
+    Ok([one, one, one, one])
+}
+
+// Ratios that differ by resource and by goal, limits that the loads exceed, and least leaders of both topics and of none.
+fn options(alloc: Global, balance: [Ratio; 4]) -> Result<Options, Fail> {
+    let a = floor(alloc, "a", 3)?;
+    let gone = floor(alloc, "gone", 5)?;
+    let b = floor(alloc, "b", 1)?;
     Ok(Options {
         limit: [ratio(5, 10)?, ratio(6, 10)?, ratio(7, 10)?, ratio(8, 10)?],
-        balance: [
-            ratio(11, 10)?,
-            ratio(12, 10)?,
-            ratio(13, 10)?,
-            ratio(14, 10)?,
-        ],
+        balance,
         replica_balance: ratio(6, 5)?,
         leader_balance: ratio(3, 2)?,
         topic_balance: ratio(1, 1)?,
         max_replicas: 1,
         leads_only: false,
+        min_leaders: MinLeadersList::new(vec![in alloc; a, gone, b]?),
     })
 }
 
@@ -121,7 +142,7 @@ fn small_case(alloc: Global, first: BrokerState) -> Result<Case, Fail>
         alloc,
         small_brokers(alloc, first)?,
         small_parts(alloc)?,
-        options()?,
+        options(alloc, small_balance()?)?,
     )?)
 }
 
@@ -143,9 +164,10 @@ fn small_book(alloc: Global, case: &Case) -> Result<LoadBook, Fail>
 // A goal, and its excess at each unit.
 type Row = (GoalKind, &'static [u128]);
 
-const ALIVE: [Row; 17] = [
+const ALIVE: [Row; 18] = [
     (GoalKind::Evacuation, &[0, 0, 0, 0, 0]),
     (GoalKind::RackAware, &[1, 0, 1, 0, 0]),
+    (GoalKind::MinTopicLeadersPerBroker, &[0, 0, 1, 0, 3, 3]),
     (GoalKind::ReplicaCapacity, &[4, 1, 0]),
     (GoalKind::DiskCapacity, &[84560, 397400, 2960]),
     (GoalKind::NetworkInboundCapacity, &[42140, 198160, 1340]),
@@ -169,9 +191,10 @@ const ALIVE: [Row; 17] = [
     (GoalKind::LeaderBytesInDistribution, &[0, 23118400, 0]),
 ];
 
-const DEAD: [Row; 17] = [
+const DEAD: [Row; 18] = [
     (GoalKind::Evacuation, &[1, 1, 1, 1, 1]),
     (GoalKind::RackAware, &[1, 0, 1, 0, 0]),
+    (GoalKind::MinTopicLeadersPerBroker, &[0, 1, 3, 3]),
     (GoalKind::ReplicaCapacity, &[1, 0]),
     (GoalKind::DiskCapacity, &[397400, 2960]),
     (GoalKind::NetworkInboundCapacity, &[198160, 1340]),
@@ -189,8 +212,9 @@ const DEAD: [Row; 17] = [
     (GoalKind::LeaderBytesInDistribution, &[1118400, 0]),
 ];
 
-const DEMOTED: [Row; 3] = [
+const DEMOTED: [Row; 4] = [
     (GoalKind::Evacuation, &[0, 0, 0, 0, 0]),
+    (GoalKind::MinTopicLeadersPerBroker, &[0, 1, 3, 3]),
     (GoalKind::Demotion, &[1, 1, 0, 1, 1]),
     (GoalKind::ReplicaDistribution, &[1, 0, 1]),
 ];
@@ -285,14 +309,6 @@ fn most_lists(alloc: Global) -> Result<Vec<Vec<u32>>, Fail> {
     Ok(lists)
 }
 
-fn most_options() -> Result<Options, Fail> {
-    let one = ratio(1000, 1000)?;
-    Ok(Options {
-        balance: [one, one, one, one],
-        ..options()?
-    })
-}
-
 // All load is on the first of 200 brokers.
 #[test]
 fn measures_the_greatest_numbers(rt: HostRuntime) -> Result<(), Fail> {
@@ -301,7 +317,7 @@ fn measures_the_greatest_numbers(rt: HostRuntime) -> Result<(), Fail> {
         alloc,
         most_brokers(alloc)?,
         most_parts(alloc)?,
-        most_options()?,
+        options(alloc, most_balance()?)?,
     )?;
     let lists = most_lists(alloc)?;
     assert!(rt; lists.len() == case.parts().len());

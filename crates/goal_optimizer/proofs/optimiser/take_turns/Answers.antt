@@ -1,3 +1,4 @@
+use Rattle.plan_terms.proofs.SameLemmas.{SameLoads-refl}
 use Rattle.std.proofs.Common.{ℕ, ◌≤◌, ◌≡◌, sym, ◌∙◌, ap, refl, arith, get_or}
 use Rattle.std.proofs.lemmas.Bool.{false≢true}
 use Rattle.std.proofs.lemmas.List.{length-take-le}
@@ -16,7 +17,7 @@ loop-place-init c = record {
   turns_are = rw c.new-turns.ensures.items (Turns-nil _ _ _);
   goals_are = rw c.new-turns.ensures.items refl;
   book_is = rw c.new-turns.ensures.items (ap (λ (b : Book). b.lists) c.in_ok-book.ensures);
-  belongs = rw c.in_ok-book.ensures (record { cluster_is = refl; lists_belong = c.requires.belongs });
+  belongs = rw c.in_ok-book.ensures (record { same_loads = SameLoads-refl _; lists_belong = c.requires.belongs });
 }
 
 pub slice_bounds-take_turn-end : goal.slice_bounds-take_turn-end

@@ -1,3 +1,4 @@
+use Rattle.plan_terms.proofs.SameLemmas.{SameLoads-by}
 use Rattle.std.proofs.Common.{◌∙◌}
 use Rattle.plan_terms.proofs.EffectLemmas.{fits-legal, targets_known-legal, Belongs-legal}
 use Rattle.plan_terms.proofs.Runs.{Steps-nil, Steps-push, after_all-push}
@@ -21,7 +22,7 @@ scan-preserved g c = let step = rw c.in-Some.is at c.in_ok-next.ensures in recor
   steps = rw c.in_ok-push-in-Some.ensures.ok (Steps-push _ _ _ _ _ _ c.scan.invariant.steps (rw c.scan.invariant.book_is at step));
   book_is = rw (c.in_ok-push-in-Some.ensures.ok, after_all-push, ← c.scan.invariant.book_is) c.apply.ensures.lists;
   belongs = record {
-    cluster_is = c.apply.ensures.cluster ∙ c.scan.invariant.belongs.cluster_is;
+    same_loads = SameLoads-by _ _ _ c.apply.ensures.cluster c.scan.invariant.belongs.same_loads;
     lists_belong = rw c.apply.ensures.lists (Belongs-legal _ _ _ c.scan.invariant.belongs.lists_belong step.legal);
   };
 }

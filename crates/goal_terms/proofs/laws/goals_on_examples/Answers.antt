@@ -6,7 +6,7 @@ use Rattle.plan_terms.specs.Belongs.{Belongs, IsReplicaList}
 use Rattle.plan_terms.specs.Cluster.{is_known}
 use Rattle.plan_terms.specs.declared.cluster.Part.{Part}
 use Rattle.plan_terms.specs.Examples.{shared_rack}
-use Rattle.plan_terms.specs.Faults.{IsCase, topics, case_fault, broken_limit, broker_repeat, part_repeat}
+use Rattle.plan_terms.specs.Faults.{IsCase, topics, case_fault, broken_limit, broker_repeat, part_repeat, leaders_repeat}
 use Rattle.plan_terms.specs.Goal.{measure}
 use Rattle.goal_terms.specs.Quantity.{quantity, total}
 use Rattle.goal_terms.specs.PerBroker.{bound_excess}
@@ -15,8 +15,8 @@ use Rattle.goal_terms.proofs.laws.goals_on_examples.Goals as goal
 
 -- nothing is wrong with the cluster
 case_good : IsCase shared_rack
-unfolding topics case_fault broken_limit broker_repeat part_repeat
-case_good = record { faultless = refl; followers = All-cons (λ (p : Part). slice_index p.loads.follow 2 ≡ 0) _ [] refl (All-nil (λ (p : Part). slice_index p.loads.follow 2 ≡ 0)) }
+unfolding topics case_fault broken_limit broker_repeat part_repeat leaders_repeat
+case_good = record { faultless = refl; topics_once = refl; followers = All-cons (λ (p : Part). slice_index p.loads.follow 2 ≡ 0) _ [] refl (All-nil (λ (p : Part). slice_index p.loads.follow 2 ≡ 0)) }
 
 -- nor with its list
 lists_good : Belongs shared_rack ((0 ∷ 1 ∷ []) ∷ [])

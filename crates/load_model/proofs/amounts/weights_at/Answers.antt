@@ -31,3 +31,8 @@ pub returns-in-OfTopic-clause-follow : goal.returns-in-OfTopic-clause-follow
 returns-in-OfTopic-clause-follow c =
     rw (c.evenly-in-OfTopic.ensures, c.one_if.ensures, c.in-OfTopic.is)
     (topic_test c.args.case.now.parts c.args.part c.topic.result c.in-OfTopic.topic c.requires.part (rw c.in-OfTopic.is at c.requires.range) c.topic.ensures.named c.topic.ensures.only)
+
+pub returns-in-LedInTopic-clause-lead : goal.returns-in-LedInTopic-clause-lead
+returns-in-LedInTopic-clause-lead c =
+    rw (c.at_first-in-LedInTopic.ensures, c.one_if-in-LedInTopic.ensures, c.in-LedInTopic.is)
+    (topic_test c.args.case.now.parts c.args.part c.topic-in-LedInTopic.result c.in-LedInTopic.topic c.requires.part (rw c.in-LedInTopic.is at c.requires.range) c.topic-in-LedInTopic.ensures.named c.topic-in-LedInTopic.ensures.only)

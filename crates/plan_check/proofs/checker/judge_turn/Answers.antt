@@ -1,3 +1,4 @@
+use Rattle.plan_terms.proofs.SameLemmas.{SameLoads-by}
 use Rattle.std.proofs.Common.{◌∙◌, refl, sym, arith, inl, inr}
 use Rattle.std.proofs.lemmas.Bool.{false≢true}
 use Rattle.std.proofs.lemmas.List.{take_all, take_more}
@@ -24,8 +25,11 @@ loop-place-preserved g c =
     let more = take_more c.args.actions.now c.loop-place.place (Move 0 0 0) c.loop-place-test.true in
     record {
       steps = rw more (Steps-push _ _ _ _ _ _ c.loop-place.invariant.steps (rw c.loop-place.invariant.lists_are at step));
-      lists_are = rw (c.in_ok-here.ensures, more, after_all-push, ← c.loop-place.invariant.lists_are);
-      belongs = rw c.in_ok-here.ensures (record { cluster_is = refl; lists_belong = Belongs-legal _ _ _ c.loop-place.invariant.belongs.lists_belong step.legal });
+      lists_are = rw (more, after_all-push, ← c.loop-place.invariant.lists_are) c.take_step.ensures.lists;
+      belongs = record {
+        same_loads = SameLoads-by _ _ _ c.take_step.ensures.cluster c.loop-place.invariant.belongs.same_loads;
+        lists_belong = rw c.take_step.ensures.lists (Belongs-legal _ _ _ c.loop-place.invariant.belongs.lists_belong step.legal);
+      };
     }
 
 pub returns-in-Some-left : goal.returns-in-Some-left

@@ -1,3 +1,4 @@
+use Rattle.plan_terms.proofs.SameLemmas.{SameLoads-refl}
 use Rattle.std.proofs.Common.{◌≡◌, ◌<◌, ◌∙◌, length, refl, sym, ap, arith}
 use Rattle.std.proofs.lemmas.Bool.{false≢true}
 use Rattle.std.proofs.lemmas.List.{length-take-le}
@@ -40,7 +41,7 @@ pub loop-place-init : goal.loop-place-init
 loop-place-init c = record {
   before = good_before-none _;
   lists_are = ap (λ (b : Book). b.lists) c.in_ok-book.ensures;
-  belongs = rw c.in_ok-book.ensures (record { cluster_is = refl; lists_belong = c.requires.belongs });
+  belongs = rw c.in_ok-book.ensures (record { same_loads = SameLoads-refl _; lists_belong = c.requires.belongs });
 }
 
 pub returns-then-not-is_goal_at : goal.returns-then-not-is_goal_at

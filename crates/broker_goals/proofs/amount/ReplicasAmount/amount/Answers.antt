@@ -1,12 +1,11 @@
-use Rattle.std.proofs.Common.{◌∙◌, sym, ap}
+use Rattle.std.proofs.Common.{◌∙◌, ℕ, List, get_or, sym, ap}
 use Rattle.goal_terms.proofs.ReadingLemmas.{quantity-replicas}
 use Rattle.goal_terms.specs.PerBroker.{id_at}
-use Rattle.plan_terms.specs.Cluster.{Cluster}
 use Rattle.plan_terms.specs.Load.{count}
 use Rattle.broker_goals.proofs.amount.ReplicasAmount.amount.Goals as goal
 
 pub returns : goal.returns
 returns c =
     c.from.ensures ∙ c.count.ensures.value
-    ∙ ap (λ (x : Cluster). count (id_at x.brokers c.args.broker) c.args.book.now.lists) c.requires.belongs.cluster_is
+    ∙ ap (λ (ids : List ℕ). count (get_or ids c.args.broker 0) c.args.book.now.lists) c.requires.belongs.same_loads.ids
     ∙ sym (quantity-replicas c.args._case.now.parts c.args.book.now.lists (id_at c.args._case.now.brokers c.args.broker) c.requires.belongs.lists_belong.one_each)

@@ -6,5 +6,8 @@ returns-in-Evacuation c = rw c.in-Evacuation.is c.accepts.ensures
 pub returns-in-RackAware : goal.returns-in-RackAware
 returns-in-RackAware c = rw c.in-RackAware.is c.accepts-in-RackAware.ensures
 
+pub returns-in-MinTopicLeadersPerBroker : goal.returns-in-MinTopicLeadersPerBroker
+returns-in-MinTopicLeadersPerBroker c = rw c.in-MinTopicLeadersPerBroker.is c.accepts-in-MinTopicLeadersPerBroker.ensures
+
 pub returns-in-Demotion : goal.returns-in-Demotion
 returns-in-Demotion c = rw c.in-Demotion.is c.accepts-in-Demotion.ensures

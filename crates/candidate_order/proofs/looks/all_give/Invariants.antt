@@ -1,0 +1,6 @@
+use Rattle.std.proofs.Common.{ℕ, ◌<◌, ◌≤◌, get_or}
+use Rattle.goal_terms.specs.Rooms.{free}
+use Rattle.candidate_order.proofs.looks.all_give.Given as goal
+
+abbrev pub invariant-loop-k : goal.invariant-loop-k
+invariant-loop-k l = (k : ℕ) → k < l.k → get_or l.weights k 0 ≤ (get_or l.givers k free).give

@@ -1,0 +1,77 @@
+-- What the earlier goals with quantities say of a move, in numbers.
+use Rattle.std.specs.Prelude.{◌≡◌, ℕ, Bool, true, false, not, ◌&&◌, ◌||◌, ◌==◌, ◌≤◌, List, Option, Some, None, map}
+use Rattle.plan_terms.specs.Cluster.{Lists}
+use Rattle.plan_terms.specs.declared.actions.Action.{Action}
+use Rattle.plan_terms.specs.declared.cluster.Part.{Part}
+use Rattle.goal_terms.specs.Quantity.{Weights, part_weight, total, trade}
+use Rattle.goal_terms.specs.Rooms.{free, StaysIn}
+use Rattle.goal_terms.specs.declared.heat.Heat.{Heat}
+use Rattle.goal_terms.specs.declared.heat.Heat.TheVariants as heat
+use Rattle.goal_terms.specs.declared.room.Room.{Room}
+
+-- what a place of the p-th partition carries for a goal: nothing where it has no quantity
+abbrev pub look_weight : Option Weights → List Part → ℕ → Bool → ℕ
+look_weight None parts p first = 0
+look_weight (Some w) parts p first = part_weight w parts p first
+
+-- what all brokers carry together for a goal: nothing where it has no quantity
+abbrev pub look_whole : Option Weights → List Part → Lists → ℕ
+look_whole None parts lists = 0
+look_whole (Some w) parts lists = total w parts lists
+
+-- the room of a broker for a goal: no limit where it has no quantity
+abbrev pub look_room : Option Weights → Room → Room
+look_room None r = free
+look_room (Some w) r = r
+
+-- the giver may give the weight, and the taker take it
+pub record Passes (weight : ℕ) (giver taker : Room) : Type 0 where
+  pub gives : weight ≤ giver.give
+  pub takes : weight ≤ taker.take
+
+-- what is kept of one broker for the earlier goals
+pub record IsRowOf {X : Type 0} (weighs : X → Option Weights) (room : X → ℕ → Room) (earlier : List X) (id : ℕ) (rooms : List Room) : Type 0 where
+  pub rooms_are : rooms ≡ map (λ x. look_room (weighs x) (room x id)) earlier
+
+-- what is kept of one partition for the earlier goals: what its first place weighs, and each other one
+pub record IsWeighed {X : Type 0} (weighs : X → Option Weights) (earlier : List X) (parts : List Part) (p : ℕ) (lead follow : List ℕ) : Type 0 where
+  pub leads : lead ≡ map (λ x. look_weight (weighs x) parts p true) earlier
+  pub follows : follow ≡ map (λ x. look_weight (weighs x) parts p false) earlier
+
+abbrev pub is_cold : Heat → Bool
+is_cold heat.Cold = true
+is_cold heat.Above = false
+is_cold heat.Below = false
+is_cold heat.Other = false
+
+abbrev pub is_above : Heat → Bool
+is_above heat.Cold = false
+is_above heat.Above = true
+is_above heat.Below = false
+is_above heat.Other = false
+
+abbrev pub is_below : Heat → Bool
+is_below heat.Cold = false
+is_below heat.Above = false
+is_below heat.Below = true
+is_below heat.Other = false
+
+-- a move of that weight can help the goal: where it has a quantity, something goes, and from a broker that is above or to one
+-- that is below; elsewhere one of the two is not cold
+abbrev pub may_help : Option ℕ → Heat → Heat → Bool
+may_help None source target = not (is_cold source && is_cold target)
+may_help (Some n) source target = not (n == 0) && (is_above source || is_below target)
+
+-- what the giver of an action gives for a goal, and what it gets back: nothing where the goal has no quantity
+abbrev pub look_out : Option Weights → List Part → Lists → Action → ℕ
+look_out None parts lists a = 0
+look_out (Some w) parts lists a = (trade w parts lists a).out
+
+abbrev pub look_back : Option Weights → List Part → Lists → Action → ℕ
+look_back None parts lists a = 0
+look_back (Some w) parts lists a = (trade w parts lists a).back
+
+-- both brokers stay in their rooms
+pub record BothStay (out back : ℕ) (giver taker : Room) : Type 0 where
+  pub gives : StaysIn giver out back
+  pub takes : StaysIn taker back out
