@@ -11,7 +11,7 @@ use Rattle.plan_terms.proofs.MemberLemmas.{list_all-member}
 use Rattle.cap_ledger.specs.declared.entry.Entry.{Entry}
 use Rattle.cap_ledger.specs.Entries.{entered, left, HasEntryRoom, IsEntryCounted}
 use Rattle.cap_ledger.specs.Ledger.{Ledger, entry_of, knows, adding_of, removing_of, gains, differ, one_if, IsKnownList, HasRoom, IsCounted, Enters, IsEmpty}
-use Rattle.cap_ledger.proofs.Find.{brokers_of, brokers_of-mapped, find-mapped, found, entry_at, empty_number, empty_known}
+use Rattle.cap_ledger.proofs.Find.{brokers_of, find-mapped, found, entry_at, empty_number, empty_known}
 use Rattle.cap_ledger.specs.Entries.{empty_entry}
 
 -- the numbers of the entry at a place are those of its broker
@@ -139,7 +139,3 @@ room_for false n f h = omega (arith, f)
 pub some_left : (c : Bool) (n : ℕ) → (c ≡ true → 1 ≤ n) → cond c 1 0 ≤ n
 some_left true n h = h refl
 some_left false n h = omega arith
-
--- the brokers of the entries stay
-pub once_kept : (f : Entry → Entry) → ((e : Entry) → (f e).broker ≡ e.broker) → (es es' : List Entry) → es' ≡ map f es → distinct (brokers_of es) ≡ true → distinct (brokers_of es') ≡ true
-once_kept f h es es' e once = rw (e, brokers_of-mapped f h es) once

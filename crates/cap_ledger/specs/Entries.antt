@@ -1,5 +1,7 @@
 -- What a task that enters or leaves does to the entry of one broker.
-use Rattle.std.specs.Prelude.{◌≡◌, ℕ, ◌+◌, ◌-◌, ◌<◌, ◌≤◌, ◌^◌, true, List}
+use Rattle.std.specs.Prelude.{◌≡◌, ℕ, ◌+◌, ◌-◌, ◌<◌, ◌≤◌, ◌^◌, true, List, map}
+use Rattle.std.specs.List.Sorted.{IsStrictlyIncreasing}
+use Rattle.plan_terms.specs.Belongs.{distinct}
 use Rattle.cap_ledger.specs.declared.entry.Entry.{Entry}
 use Rattle.cap_ledger.specs.Ledger.{gains, one_if}
 
@@ -24,3 +26,9 @@ pub record HasEntryRoom (before after : List ℕ) (e : Entry) : Type 0 where
 pub record IsEntryCounted (before after : List ℕ) (e : Entry) : Type 0 where
   pub adding : gains before after e.broker ≡ true → 1 ≤ e.adding
   pub removing : gains after before e.broker ≡ true → 1 ≤ e.removing
+
+-- the entries are those of these brokers, which rise
+pub record AreInOrder (ids : List ℕ) (entries : List Entry) : Type 0 where
+  pub brokers_are : map (λ e. e.broker) entries ≡ ids
+  pub rising : IsStrictlyIncreasing ids
+  pub once : distinct ids ≡ true

@@ -5,7 +5,7 @@ use Rattle.std.specs.Option.{option_map_or}
 use Rattle.plan_terms.specs.Belongs.{distinct}
 use Rattle.plan_terms.specs.Cluster.{has}
 use Rattle.plan_terms.specs.Change.{added}
-use Rattle.exec_terms.specs.declared.brokers.Caps.{Caps}
+use Rattle.plan_terms.specs.declared.settings.Caps.{Caps}
 use Rattle.cap_ledger.specs.declared.entry.Entry.{Entry}
 
 -- an entry for each broker, and how many tasks in flight move replicas and change a leader alone

@@ -17,6 +17,9 @@ use std::marker::Model;
 /// list to another; it moves replicas where the two differ as sets, and else changes the leader or the order alone.
 #[derive(Drop)]
 pub struct Counts {
+    // the known brokers, in rising order
+    ids: Vec<u32>,
+    // beside each broker, what is counted of it
     entries: Vec<Entry>,
     replica: u32,
     leader: u32,
@@ -24,14 +27,13 @@ pub struct Counts {
 
 impl Model for Counts {
     ghost use Rattle.cap_ledger.specs.Ledger.{Ledger};
-    ghost use Rattle.std.specs.Prelude.{◌≡◌, true, map};
-    ghost use Rattle.plan_terms.specs.Belongs.{distinct};
+    ghost use Rattle.cap_ledger.specs.Entries.{AreInOrder};
 
     ghost Value = { Ledger };
 
     ghost view = { λ c. record { entries = c.entries.items; replica = c.replica; leader = c.leader } };
 
-    ghost invariant = { λ c. distinct (map (λ e. e.broker) c.entries.items) ≡ true };
+    ghost invariant = { λ c. AreInOrder c.ids.items c.entries.items };
 }
 
 impl Counts {
@@ -40,8 +42,12 @@ impl Counts {
         requires { IsTrue (distinct brokers.now) }
         ensures { IfOk result (IsEmpty brokers.now) }
     {
+        let mut ids = Vec::from_slice(alloc, brokers)?;
+        ids.sort_unstable();
+        let entries = empty_entries(alloc, ids.as_slice())?;
         Ok(Counts {
-            entries: empty_entries(alloc, brokers)?,
+            ids,
+            entries,
             replica: 0,
             leader: 0,
         })
@@ -107,12 +113,22 @@ impl Counts {
         self.leader -= one_if(!moves);
     }
 
+    // The entry of the broker.
+    fn find(&self, broker: u32) -> Option<&Entry>
+        ensures { option_map (λ e. e.now) result ≡ entry_of self.now.entries broker }
+    {
+        match self.ids.as_slice().binary_search(&broker) {
+            Ok(i) => Some(&self.entries[i]),
+            Err(_) => None,
+        }
+    }
+
     /// How many tasks in flight add the broker; 0 where it is unknown.
     #[tactic(auto, unfolding(crate::specs::Ledger::adding_of))]
     pub fn adding(&self, broker: u32) -> u32
         ensures { result ≡ adding_of self.now broker }
     {
-        match find(self.entries.as_slice(), broker) {
+        match self.find(broker) {
             None => 0,
             Some(entry) => entry.adding,
         }
@@ -123,7 +139,7 @@ impl Counts {
     pub fn removing(&self, broker: u32) -> u32
         ensures { result ≡ removing_of self.now broker }
     {
-        match find(self.entries.as_slice(), broker) {
+        match self.find(broker) {
             None => 0,
             Some(entry) => entry.removing,
         }
@@ -142,13 +158,6 @@ impl Counts {
     {
         self.leader
     }
-}
-
-// The entry of the broker.
-fn find(entries: &[Entry], broker: u32) -> Option<&Entry>
-    ensures { option_map (λ e. e.now) result ≡ entry_of entries.now broker }
-{
-    entries.iter().find(|e| e.broker == broker)
 }
 
 // An entry for each broker.

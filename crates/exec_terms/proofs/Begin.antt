@@ -49,9 +49,10 @@ module _ (base : List (List ℕ)) (hosts : List Host) (stopped : Bool) (leases :
   unfolding copies next_step
   IsTask-more t h = record {
     known = h.known;
-    short = h.short;
     few_chunks = h.few_chunks;
     before = h.before;
+    before_is = h.before_is;
+    after_is = h.after_is;
     done = h.done;
     lease = λ l e. let i = h.lease l e in record { given = omega (arith, i.given); flies = i.flies; next = i.next; copy = i.copy };
     pending = h.pending;
@@ -81,9 +82,10 @@ unfolding copies next_step
 with_lease-flying base hosts stopped leases t Pending w e f n m h = absurd (false≢true f)
 with_lease-flying base hosts stopped leases t InProgress w e f n m h = record {
   known = h.known;
-  short = h.short;
   few_chunks = h.few_chunks;
   before = h.before;
+  before_is = h.before_is;
+  after_is = h.after_is;
   done = h.done;
   lease = λ l q. IsLease-same base hosts stopped (leases + 1) _ (record { number = leases + 1; work = w }) l (same_Some _ _ q) (record { given = omega arith; flies = refl; next = λ _. n refl; copy = m });
   pending = λ q. cc;
@@ -95,9 +97,10 @@ with_lease-flying base hosts stopped leases t InProgress w e f n m h = record {
 }
 with_lease-flying base hosts stopped leases t Aborting w e f n m h = record {
   known = h.known;
-  short = h.short;
   few_chunks = h.few_chunks;
   before = h.before;
+  before_is = h.before_is;
+  after_is = h.after_is;
   done = h.done;
   lease = λ l q. IsLease-same base hosts stopped (leases + 1) _ (record { number = leases + 1; work = w }) l (same_Some _ _ q) (record { given = omega arith; flies = refl; next = λ q. cc; copy = m });
   pending = λ q. cc;
@@ -118,9 +121,10 @@ pub with_lease-start : (base : List (List ℕ)) (hosts : List Host) (stopped : B
 unfolding copies next_step
 with_lease-start base hosts stopped leases t e h = record {
   known = h.known;
-  short = h.short;
   few_chunks = h.few_chunks;
   before = h.before;
+  before_is = h.before_is;
+  after_is = h.after_is;
   done = h.done;
   lease = λ l q. IsLease-same base hosts stopped (leases + 1) _ (record { number = leases + 1; work = next_step t }) l (same_Some _ _ q) (record { given = omega arith; flies = refl; next = λ _. refl; copy = λ _. refl });
   pending = λ q. cc;

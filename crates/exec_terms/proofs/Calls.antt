@@ -161,9 +161,9 @@ copy_ends s lease i x v e read =
     let t = v.each i no_task k in
     let g = worth_goes_on s lease i v e in
     rw q (record {
-      short = t.short;
+      short = t.after_is.few;
       few_chunks = t.few_chunks;
-      room = omega (arith, g.1, few_copies (task_at s.tasks i) t.short t.few_chunks);
+      room = omega (arith, g.1, few_copies (task_at s.tasks i) t.after_is.few t.few_chunks);
       left = omega (arith, g.1);
       faults = omega (arith, t.faults g.0);
     })

@@ -56,7 +56,7 @@ pub length-copies : (t : Task) → length (copies t) ≡ length (added t.before 
 unfolding copies
 length-copies t = length-copies_of (added t.before t.after) t.chunks
 
-added_le : (before after : List ℕ) → length (added before after) ≤ length after
+pub added_le : (before after : List ℕ) → length (added before after) ≤ length after
 added_le before after = omega (arith, length-filter (λ b. not (has before b)) after, count_by-le-length (λ b. not (has before b)) after)
 
 pub small_product : (a b : ℕ) → a ≤ 8 → b ≤ 1000 → a * b ≤ 8000

@@ -18,9 +18,9 @@ use Rattle.exec_terms.specs.Machine.{State, no_task, task_at, any_unfinished, st
 use Rattle.exec_terms.specs.Leases.{test_lease, one_copied, one_failed, committed, cancelled}
 use Rattle.exec_terms.specs.Stops.{stopped_by, killed_by, after_stop, can_die, after_kill, marked}
 use Rattle.exec_terms.specs.Valid.{work_in, work_of_task, work_left}
-use Rattle.exec_terms.specs.Runs.{Take, Copied, CopyFailed, Committed, Cancelled, GivenBack, Stops, Killed, Launched, NoEventRaises, TakeGives}
+use Rattle.exec_terms.specs.Runs.{Take, Copied, CopyFailed, Committed, Cancelled, GivenBack, Stops, Killed, Launched, CapsSet, NoEventRaises, TakeGives}
 use Rattle.exec_terms.proofs.Counts.{count_by_none}
-use Rattle.exec_terms.specs.declared.brokers.Caps.{Caps}
+use Rattle.plan_terms.specs.declared.settings.Caps.{Caps}
 use Rattle.exec_terms.proofs.Begin.{is_pending_is, is_in_progress_is, is_aborting_is}
 use Rattle.exec_terms.proofs.WorkLeft.{position-None, answered_or_same, end_lease_at_most, stopped_work, killed_by_work, sum_by-at_most, sum_by-map_le, events_lower, work_of_some}
 
@@ -81,6 +81,7 @@ no_event_raises s (GivenBack lease) n v = end_lease_at_most s lease
 no_event_raises s (Stops force) n v = stop_at_most s force
 no_event_raises s (Killed broker) n v = kill_at_most s broker
 no_event_raises s (Launched proposals) n v = absurd (n tt)
+no_event_raises s (CapsSet caps) n v = omega arith
 
 pub none_any : {X : Type 0} (p : X → Bool) (xs : List X) → list_any p xs ≡ false → All (λ x. p x ≡ false) xs
 none_any p [] h = λ k d l. absurd (omega arith)

@@ -1,5 +1,7 @@
 pub mod Begin
 pub mod Calls
+pub mod Calm
+pub mod CapLaws
 pub mod Copies
 pub mod Counts
 pub mod Events
@@ -11,6 +13,8 @@ pub mod Members
 pub mod NextWork
 pub mod Quiet
 pub mod QuietTasks
+pub mod SettledLists
+pub mod Starts
 pub mod Take
 pub mod TaskLemmas
 pub mod Unions

@@ -4,11 +4,10 @@ use Rattle.std.proofs.lemmas.List.{length-set, length-map}
 use Rattle.std.proofs.lemmas.Bool.{and_parts, and_from}
 use Rattle.std.proofs.lemmas.List.Elements.{All-set, All-map, All-weaker}
 use Rattle.exec_terms.specs.Words.{in_flight, is_unfinished, adds, removes, is_replica_task, holds, is_on}
-use Rattle.exec_terms.specs.Machine.{State, no_task, task_at, with_task, adding, removing, replica_tasks, leader_tasks, unfinished_replica_tasks}
-use Rattle.exec_terms.specs.Valid.{AreCapsKept, IsOrderKept, IsTask, IsValid}
+use Rattle.exec_terms.specs.Machine.{State, no_task, task_at, with_task, leader_tasks, unfinished_replica_tasks}
+use Rattle.exec_terms.specs.Valid.{IsOrderKept, IsTask, IsValid}
 use Rattle.exec_terms.specs.declared.task.Task.{Task}
 use Rattle.exec_terms.specs.declared.brokers.Host.{Host}
-use Rattle.exec_terms.specs.declared.brokers.Caps.{Caps}
 use Rattle.exec_terms.proofs.Counts.{count_by-map, count_by-set}
 
 -- the task keeps its partition and its lists, and enters nothing: neither flight nor a lease
@@ -50,18 +49,6 @@ module _ (t u : Task) (q : IsQuiet t u) where
   pub quiet_on : (p : ℕ) → is_on p u ≡ true → is_on p t ≡ true
   quiet_on p h = rw q.part at h
 
--- counts that are no greater keep the caps
-pub AreCapsKept-less : (caps : Caps) (xs ys : List Task)
-    → ((b : ℕ) → adding ys b ≤ adding xs b) → ((b : ℕ) → removing ys b ≤ removing xs b)
-    → replica_tasks ys ≤ replica_tasks xs → leader_tasks ys ≤ leader_tasks xs
-    → AreCapsKept caps xs → AreCapsKept caps ys
-AreCapsKept-less caps xs ys a r m l h = record {
-  adding = λ b. omega (arith, a b, h.adding b);
-  removing = λ b. omega (arith, r b, h.removing b);
-  replica = omega (arith, m, h.replica);
-  leader = omega (arith, l, h.leader);
-}
-
 pub IsOrderKept-less : (xs ys : List Task) → leader_tasks ys ≤ leader_tasks xs → unfinished_replica_tasks ys ≤ unfinished_replica_tasks xs → IsOrderKept xs → IsOrderKept ys
 IsOrderKept-less xs ys l u h = record { waits = λ some. let e : unfinished_replica_tasks xs ≡ 0 = h.waits (omega arith) in omega (arith, e, u) }
 
@@ -73,13 +60,8 @@ IsValid-set s i u l q ok v = record {
   cluster_cap = v.cluster_cap;
   leader_cap = v.leader_cap;
   few_chunks = v.few_chunks;
+  base_lists = v.base_lists;
   few_tasks = rw (length-set s.tasks i u) v.few_tasks;
-  counts = AreCapsKept-less s.caps s.tasks (set s.tasks i u)
-      (λ b. count_by-set (λ t. in_flight t.phase && adds t b) s.tasks i u no_task l (quiet_adding (task_at s.tasks i) u q b))
-      (λ b. count_by-set (λ t. in_flight t.phase && removes t b) s.tasks i u no_task l (quiet_removing (task_at s.tasks i) u q b))
-      (count_by-set (λ t. in_flight t.phase && is_replica_task t) s.tasks i u no_task l (quiet_replica (task_at s.tasks i) u q))
-      (count_by-set (λ t. in_flight t.phase && not (is_replica_task t)) s.tasks i u no_task l (quiet_leader (task_at s.tasks i) u q))
-      v.counts;
   order = IsOrderKept-less s.tasks (set s.tasks i u)
       (count_by-set (λ t. in_flight t.phase && not (is_replica_task t)) s.tasks i u no_task l (quiet_leader (task_at s.tasks i) u q))
       (count_by-set (λ t. is_unfinished t.phase && is_replica_task t) s.tasks i u no_task l (quiet_unfinished (task_at s.tasks i) u q))
@@ -99,13 +81,8 @@ IsValid-map s f hosts' stopped' q ok v = record {
   cluster_cap = v.cluster_cap;
   leader_cap = v.leader_cap;
   few_chunks = v.few_chunks;
+  base_lists = v.base_lists;
   few_tasks = rw (length-map s.tasks f) v.few_tasks;
-  counts = AreCapsKept-less s.caps s.tasks (map f s.tasks)
-      (λ b. count_by-map (λ t. in_flight t.phase && adds t b) f (λ t. quiet_adding t (f t) (q t) b) s.tasks)
-      (λ b. count_by-map (λ t. in_flight t.phase && removes t b) f (λ t. quiet_removing t (f t) (q t) b) s.tasks)
-      (count_by-map (λ t. in_flight t.phase && is_replica_task t) f (λ t. quiet_replica t (f t) (q t)) s.tasks)
-      (count_by-map (λ t. in_flight t.phase && not (is_replica_task t)) f (λ t. quiet_leader t (f t) (q t)) s.tasks)
-      v.counts;
   order = IsOrderKept-less s.tasks (map f s.tasks)
       (count_by-map (λ t. in_flight t.phase && not (is_replica_task t)) f (λ t. quiet_leader t (f t) (q t)) s.tasks)
       (count_by-map (λ t. is_unfinished t.phase && is_replica_task t) f (λ t. quiet_unfinished t (f t) (q t)) s.tasks)

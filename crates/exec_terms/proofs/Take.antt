@@ -1,8 +1,8 @@
 -- A take leaves a valid state valid.
 use Rattle.std.proofs.Common.{◌≡◌, ℕ, ◌+◌, ◌<◌, ◌≤◌, true, false, not, ◌&&◌, cond, inl, inr, List, set, length, get_or, arith, refl, sym, ◌∙◌}
 use Rattle.std.specs.Prelude.{◌==◌, nat_lt, Option, Some, None, Ok}
-use Rattle.std.specs.List.{list_all, position, count_by}
-use Rattle.std.proofs.lemmas.Bool.{cases_Bool, cases_eq, and_parts, and_from, false≢true, true≢false, ltb-true, eqb-true, not-true}
+use Rattle.std.specs.List.{position, count_by}
+use Rattle.std.proofs.lemmas.Bool.{cases_Bool, cases_eq, and_parts, and_from, false≢true, true≢false, eqb-true, not-true}
 use Rattle.std.proofs.lemmas.List.{length-set}
 use Rattle.std.proofs.lemmas.List.Elements.{All-set, All-weaker}
 use Rattle.std.proofs.lemmas.List.Quantifiers.{position-Some}
@@ -12,15 +12,12 @@ use Rattle.exec_terms.specs.declared.work.WorkKind.TheVariants.{Copy as ForCopy}
 use Rattle.exec_terms.specs.declared.work.Work.{Work}
 use Rattle.exec_terms.specs.declared.work.Work.TheVariants.{Cancel}
 use Rattle.exec_terms.specs.declared.task.Task.{Task}
-use Rattle.exec_terms.specs.declared.brokers.Caps.{Caps}
-use Rattle.exec_terms.specs.Words.{is_pending, is_in_progress, is_aborting, in_flight, is_unfinished, is_free, adds, removes, is_replica_task, next_step, is_for, holds, has_number, is_on}
-use Rattle.plan_terms.specs.Change.{added}
-use Rattle.plan_terms.specs.Cluster.{has}
-use Rattle.exec_terms.specs.Machine.{State, no_task, task_at, adding, removing, replica_tasks, leader_tasks, unfinished_replica_tasks, has_room, has_leader_room, may_start, given, or_start, or_step, or_cancel, next_work, started, taken, after_take}
-use Rattle.exec_terms.specs.Valid.{AreCapsKept, IsOrderKept, IsTask, IsValid}
+use Rattle.plan_terms.specs.declared.settings.Caps.{Caps}
+use Rattle.exec_terms.specs.Words.{is_pending, is_in_progress, is_aborting, in_flight, is_unfinished, is_free, is_replica_task, next_step, is_for, holds, has_number, is_on}
+use Rattle.exec_terms.specs.Machine.{State, no_task, task_at, leader_tasks, unfinished_replica_tasks, has_room, has_leader_room, may_start, given, or_start, or_step, or_cancel, next_work, started, taken, after_take}
+use Rattle.exec_terms.specs.Valid.{IsOrderKept, IsTask, IsValid}
 use Rattle.exec_terms.proofs.Counts.{count_by-set, count_by-set_one, count_by_some, count_by_none}
-use Rattle.exec_terms.proofs.Members.{has_all, adds-replica, removes-replica}
-use Rattle.exec_terms.proofs.Quiet.{IsQuiet, quiet_adding, quiet_removing, quiet_replica, quiet_leader, quiet_unfinished, AreCapsKept-less, IsOrderKept-less}
+use Rattle.exec_terms.proofs.Quiet.{IsQuiet, quiet_leader, quiet_unfinished, IsOrderKept-less}
 use Rattle.exec_terms.proofs.Begin.{IsTask-more, not_given, with_lease-flying, with_lease-start, is_aborting_is, is_in_progress_is, is_pending_is}
 
 -- the state with one more lease, at task i
@@ -29,17 +26,17 @@ leased s i u = record s { tasks = set s.tasks i u; leases = s.leases + 1 }
 
 IsValid-leased : (s : State) (i : ℕ) (u : Task) → i < length s.tasks
     → u.part ≡ (task_at s.tasks i).part → ((n : ℕ) → holds n u ≡ true → n ≡ s.leases + 1)
-    → AreCapsKept s.caps (set s.tasks i u) → IsOrderKept (set s.tasks i u)
+    → IsOrderKept (set s.tasks i u)
     → IsTask s.base s.hosts s.stopped (s.leases + 1) u
     → IsValid s → IsValid (leased s i u)
 unfolding leased
-IsValid-leased s i u l p one counts order ok v = record {
+IsValid-leased s i u l p one order ok v = record {
   broker_cap = v.broker_cap;
   cluster_cap = v.cluster_cap;
   leader_cap = v.leader_cap;
   few_chunks = v.few_chunks;
+  base_lists = v.base_lists;
   few_tasks = rw (length-set s.tasks i u) v.few_tasks;
-  counts = counts;
   order = order;
   one_task = λ q. omega (arith, v.one_task q, count_by-set (is_on q) s.tasks i u no_task l (λ h. rw p at h));
   one_holder = λ n. elim (cases_eq n (s.leases + 1)) as (λ _. count_by (holds n) (set s.tasks i u) ≤ 1) [
@@ -54,15 +51,7 @@ IsValid-leased s i u l p one counts order ok v = record {
       (All-weaker (IsTask s.base s.hosts s.stopped s.leases) (IsTask s.base s.hosts s.stopped (s.leases + 1)) (IsTask-more s.base s.hosts s.stopped s.leases) s.tasks v.each);
 }
 
--- counts with a task that was in flight already
-kept_flying : (caps : Caps) (xs : List Task) (i : ℕ) (u : Task) → i < length xs → IsQuiet (task_at xs i) (record u { lease = (task_at xs i).lease }) → AreCapsKept caps xs → AreCapsKept caps (set xs i u)
-kept_flying caps xs i u l q k = AreCapsKept-less caps xs (set xs i u)
-    (λ b. count_by-set (λ t. in_flight t.phase && adds t b) xs i u no_task l (quiet_adding (task_at xs i) _ q b))
-    (λ b. count_by-set (λ t. in_flight t.phase && removes t b) xs i u no_task l (quiet_removing (task_at xs i) _ q b))
-    (count_by-set (λ t. in_flight t.phase && is_replica_task t) xs i u no_task l (quiet_replica (task_at xs i) _ q))
-    (count_by-set (λ t. in_flight t.phase && not (is_replica_task t)) xs i u no_task l (quiet_leader (task_at xs i) _ q))
-    k
-
+-- the order with a task that was in flight already
 order_flying : (xs : List Task) (i : ℕ) (u : Task) → i < length xs → IsQuiet (task_at xs i) (record u { lease = (task_at xs i).lease }) → IsOrderKept xs → IsOrderKept (set xs i u)
 order_flying xs i u l q k = IsOrderKept-less xs (set xs i u)
     (count_by-set (λ t. in_flight t.phase && not (is_replica_task t)) xs i u no_task l (quiet_leader (task_at xs i) _ q))
@@ -77,56 +66,19 @@ quiet_flying t Aborted e f = absurd (false≢true f)
 quiet_flying t Completed e f = absurd (false≢true f)
 quiet_flying t Dead e f = absurd (false≢true f)
 
--- counts with a task that starts, where there is room
-begun : Task → Work → ℕ → Task
+-- a task that starts
+unfoldable pub begun : Task → Work → ℕ → Task
 begun t w n = record t { phase = InProgress; lease = Some (record { number = n; work = w }) }
 
 unfinished_kept : (xs : List Task) (i : ℕ) (w : Work) (n : ℕ) → i < length xs → (task_at xs i).phase ≡ Pending → unfinished_replica_tasks (set xs i (begun (task_at xs i) w n)) ≤ unfinished_replica_tasks xs
 unfolding begun
 unfinished_kept xs i w n l p = count_by-set (λ t. is_unfinished t.phase && is_replica_task t) xs i (begun (task_at xs i) w n) no_task l (λ h. rw p h)
 
-no_leader_more : (xs : List Task) (i : ℕ) (w : Work) (n : ℕ) → i < length xs → (task_at xs i).phase ≡ Pending → is_replica_task (task_at xs i) ≡ true
+pub no_leader_more : (xs : List Task) (i : ℕ) (w : Work) (n : ℕ) → i < length xs → (task_at xs i).phase ≡ Pending → is_replica_task (task_at xs i) ≡ true
     → leader_tasks (set xs i (begun (task_at xs i) w n)) ≤ leader_tasks xs
 unfolding begun
 no_leader_more xs i w n l p r = count_by-set (λ t. in_flight t.phase && not (is_replica_task t)) xs i (begun (task_at xs i) w n) no_task l
     (λ h. absurd (true≢false (sym r ∙ not-true (is_replica_task (task_at xs i)) (and_parts true (not (is_replica_task (task_at xs i))) h).1)))
-
-kept_replica : (caps : Caps) (xs : List Task) (i : ℕ) (w : Work) (n : ℕ) → i < length xs → (task_at xs i).phase ≡ Pending → is_replica_task (task_at xs i) ≡ true
-    → has_room caps xs (task_at xs i) ≡ true → AreCapsKept caps xs → AreCapsKept caps (set xs i (begun (task_at xs i) w n))
-unfolding begun
-kept_replica caps xs i w n l p r room k = record {
-  adding = λ b. elim (cases_Bool (adds t b)) as (λ _. adding (set xs i u) b ≤ caps.broker) [
-    | inl a ↦ omega (
-      arith,
-      count_by-set_one (λ t. in_flight t.phase && adds t b) xs i u no_task l,
-      ltb-true (adding xs b) caps.broker (has_all (λ b. nat_lt (adding xs b) caps.broker) (λ b. not (has t.before b)) t.after b
-          three.0.0 (and_parts (has t.after b) (not (has t.before b)) a).0 (and_parts (has t.after b) (not (has t.before b)) a).1),
-    )
-    | inr a ↦ omega (arith, k.adding b, count_by-set (λ t. in_flight t.phase && adds t b) xs i u no_task l (λ h. absurd (true≢false (sym (and_parts true (adds t b) h).1 ∙ a))))
-  ];
-  removing = λ b. elim (cases_Bool (removes t b)) as (λ _. removing (set xs i u) b ≤ caps.broker) [
-    | inl a ↦ omega (
-      arith,
-      count_by-set_one (λ t. in_flight t.phase && removes t b) xs i u no_task l,
-      ltb-true (removing xs b) caps.broker (has_all (λ b. nat_lt (removing xs b) caps.broker) (λ b. not (has t.after b)) t.before b
-          three.0.1 (and_parts (has t.before b) (not (has t.after b)) a).0 (and_parts (has t.before b) (not (has t.after b)) a).1),
-    )
-    | inr a ↦ omega (arith, k.removing b, count_by-set (λ t. in_flight t.phase && removes t b) xs i u no_task l (λ h. absurd (true≢false (sym (and_parts true (removes t b) h).1 ∙ a))))
-  ];
-  replica = omega (arith, count_by-set_one (λ t. in_flight t.phase && is_replica_task t) xs i u no_task l, ltb-true (replica_tasks xs) caps.cluster three.1);
-  leader = omega (arith, k.leader, no_leader_more xs i w n l p r);
-} where
-  t : Task
-  t = task_at xs i
-
-  u : Task
-  u = begun (task_at xs i) w n
-
-  both : ((list_all (λ b. nat_lt (adding xs b) caps.broker) (added t.before t.after) && list_all (λ b. nat_lt (removing xs b) caps.broker) (added t.after t.before)) ≡ true) × (nat_lt (replica_tasks xs) caps.cluster ≡ true)
-  both = and_parts _ _ room
-
-  three : ((list_all (λ b. nat_lt (adding xs b) caps.broker) (added t.before t.after) ≡ true) × (list_all (λ b. nat_lt (removing xs b) caps.broker) (added t.after t.before) ≡ true)) × (nat_lt (replica_tasks xs) caps.cluster ≡ true)
-  three = (and_parts _ _ both.0, both.1)
 
 order_replica : (xs : List Task) (i : ℕ) (w : Work) (n : ℕ) → i < length xs → (task_at xs i).phase ≡ Pending → is_replica_task (task_at xs i) ≡ true
     → IsOrderKept xs → IsOrderKept (set xs i (begun (task_at xs i) w n))
@@ -135,24 +87,6 @@ order_replica xs i w n l p r k = record {
       let e : unfinished_replica_tasks xs ≡ 0 = k.waits (omega (arith, no_leader_more xs i w n l p r)) in
       omega (arith, e, count_by_some (λ t. is_unfinished t.phase && is_replica_task t) xs i no_task l (and_from (is_unfinished (task_at xs i).phase) (is_replica_task (task_at xs i)) (rw p refl) r)));
 }
-
-kept_leader : (caps : Caps) (xs : List Task) (i : ℕ) (w : Work) (n : ℕ) → i < length xs → (task_at xs i).phase ≡ Pending → is_replica_task (task_at xs i) ≡ false
-    → has_leader_room caps xs ≡ true → AreCapsKept caps xs → AreCapsKept caps (set xs i (begun (task_at xs i) w n))
-unfolding begun
-kept_leader caps xs i w n l p r room k = record {
-  adding = λ b. omega (arith, k.adding b, count_by-set (λ t. in_flight t.phase && adds t b) xs i u no_task l (λ h. absurd (true≢false (sym (adds-replica t b (and_parts true (adds t b) h).1) ∙ r))));
-  removing = λ b. omega (arith, k.removing b, count_by-set (λ t. in_flight t.phase && removes t b) xs i u no_task l (λ h. absurd (true≢false (sym (removes-replica t b (and_parts true (removes t b) h).1) ∙ r))));
-  replica = omega (arith, k.replica, count_by-set (λ t. in_flight t.phase && is_replica_task t) xs i u no_task l (λ h. absurd (true≢false (sym (and_parts true (is_replica_task t) h).1 ∙ r))));
-  leader = omega (arith, count_by-set_one (λ t. in_flight t.phase && not (is_replica_task t)) xs i u no_task l, ltb-true (leader_tasks xs) caps.leader two.0);
-} where
-  t : Task
-  t = task_at xs i
-
-  u : Task
-  u = begun (task_at xs i) w n
-
-  two : (nat_lt (leader_tasks xs) caps.leader ≡ true) × ((unfinished_replica_tasks xs == 0) ≡ true)
-  two = and_parts _ _ room
 
 order_leader : (caps : Caps) (xs : List Task) (i : ℕ) (w : Work) (n : ℕ) → i < length xs → (task_at xs i).phase ≡ Pending
     → has_leader_room caps xs ≡ true → IsOrderKept (set xs i (begun (task_at xs i) w n))
@@ -171,7 +105,6 @@ IsValid-take s v = by_cancel (position (λ t. is_aborting t.phase && is_free t.l
       → (p ≡ InProgress → w ≡ next_step (task_at s.tasks i)) → (is_for ForCopy w ≡ true → w ≡ next_step (task_at s.tasks i)) → IsValid (taken s (Ok (given s i w false)))
   flying i p w l e f n m = rw e (IsValid-leased s i (record (task_at s.tasks i) { phase = started p; lease = Some (record { number = s.leases + 1; work = w }) }) l refl
       (λ m h. holds_new (s.leases + 1) m w h)
-      (kept_flying s.caps s.tasks i _ l (quiet_flying (task_at s.tasks i) p e f) v.counts)
       (order_flying s.tasks i _ l (quiet_flying (task_at s.tasks i) p e f) v.order)
       (with_lease-flying s.base s.hosts s.stopped s.leases (task_at s.tasks i) p w e f n m (v.each i no_task l)) v)
 
@@ -179,10 +112,6 @@ IsValid-take s v = by_cancel (position (λ t. is_aborting t.phase && is_free t.l
   by_start None e = v
   by_start (Some i) e = rw pending (IsValid-leased s i (begun (task_at s.tasks i) (next_step (task_at s.tasks i)) (s.leases + 1)) p.0 refl
       (λ m h. holds_new (s.leases + 1) m (next_step (task_at s.tasks i)) h)
-      (elim (cases_Bool (is_replica_task (task_at s.tasks i))) [
-        | inl r ↦ kept_replica s.caps s.tasks i (next_step (task_at s.tasks i)) (s.leases + 1) p.0 pending r (rw r at room) v.counts
-        | inr r ↦ kept_leader s.caps s.tasks i (next_step (task_at s.tasks i)) (s.leases + 1) p.0 pending r (rw r at room) v.counts
-      ])
       (elim (cases_Bool (is_replica_task (task_at s.tasks i))) [
         | inl r ↦ order_replica s.tasks i (next_step (task_at s.tasks i)) (s.leases + 1) p.0 pending r v.order
         | inr r ↦ order_leader s.caps s.tasks i (next_step (task_at s.tasks i)) (s.leases + 1) p.0 pending (rw r at room)

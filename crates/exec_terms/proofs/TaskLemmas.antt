@@ -21,9 +21,10 @@ module _ (base : List (List ℕ)) (hosts : List Host) (stopped : Bool) (leases :
   unfolding copies next_step
   IsTask-released t h = record {
     known = h.known;
-    short = h.short;
     few_chunks = h.few_chunks;
     before = h.before;
+    before_is = h.before_is;
+    after_is = h.after_is;
     done = h.done;
     lease = λ l e. absurd (none-some l e);
     pending = λ e. record { done = (h.pending e).done; faults = (h.pending e).faults; lease = refl };
@@ -38,9 +39,10 @@ module _ (base : List (List ℕ)) (hosts : List Host) (stopped : Bool) (leases :
   unfolding copies next_step
   IsTask-one_copied t p l h = record {
     known = h.known;
-    short = h.short;
     few_chunks = h.few_chunks;
     before = h.before;
+    before_is = h.before_is;
+    after_is = h.after_is;
     done = omega arith;
     lease = λ l e. absurd (none-some l e);
     pending = λ e. cc;
@@ -55,9 +57,10 @@ module _ (base : List (List ℕ)) (hosts : List Host) (stopped : Bool) (leases :
   unfolding copies next_step
   IsTask-committed t p l h = record {
     known = h.known;
-    short = h.short;
     few_chunks = h.few_chunks;
     before = h.before;
+    before_is = h.before_is;
+    after_is = h.after_is;
     done = h.done;
     lease = λ l e. absurd (none-some l e);
     pending = λ e. cc;
@@ -74,9 +77,10 @@ module _ (base : List (List ℕ)) (hosts : List Host) (stopped : Bool) (leases :
     by : (d : Bool) → t.doomed ≡ d → IsTask base hosts stopped leases (record t { phase = cond d Dead Aborted; lease = None })
     by true e = record {
       known = h.known;
-      short = h.short;
       few_chunks = h.few_chunks;
       before = h.before;
+      before_is = h.before_is;
+      after_is = h.after_is;
       done = h.done;
       lease = λ l e. absurd (none-some l e);
       pending = λ e. cc;
@@ -88,9 +92,10 @@ module _ (base : List (List ℕ)) (hosts : List Host) (stopped : Bool) (leases :
     }
     by false e = record {
       known = h.known;
-      short = h.short;
       few_chunks = h.few_chunks;
       before = h.before;
+      before_is = h.before_is;
+      after_is = h.after_is;
       done = h.done;
       lease = λ l e. absurd (none-some l e);
       pending = λ e. cc;
@@ -108,9 +113,10 @@ module _ (base : List (List ℕ)) (hosts : List Host) (stopped : Bool) (leases :
         (cond c (record t { faults = t.faults + 1; lease = None }) (record t { faults = t.faults + 1; phase = Aborting; doomed = true; lease = None }))
     by true e = record {
       known = h.known;
-      short = h.short;
       few_chunks = h.few_chunks;
       before = h.before;
+      before_is = h.before_is;
+      after_is = h.after_is;
       done = h.done;
       lease = λ l e. absurd (none-some l e);
       pending = λ e. cc;
@@ -122,9 +128,10 @@ module _ (base : List (List ℕ)) (hosts : List Host) (stopped : Bool) (leases :
     }
     by false e = record {
       known = h.known;
-      short = h.short;
       few_chunks = h.few_chunks;
       before = h.before;
+      before_is = h.before_is;
+      after_is = h.after_is;
       done = h.done;
       lease = λ l e. absurd (none-some l e);
       pending = λ e. cc;
@@ -140,9 +147,10 @@ module _ (base : List (List ℕ)) (hosts : List Host) (stopped : Bool) (leases :
   unfolding copies next_step
   IsTask-none_waits t n h = record {
     known = h.known;
-    short = h.short;
     few_chunks = h.few_chunks;
     before = h.before;
+    before_is = h.before_is;
+    after_is = h.after_is;
     done = h.done;
     lease = h.lease;
     pending = h.pending;
@@ -163,9 +171,10 @@ module _ (base : List (List ℕ)) (hosts : List Host) (stopped : Bool) (leases :
     by : (force : Bool) (p : Phase) → t.phase ≡ p → IsTask base hosts true leases (record t { phase = phase_stopped force p })
     by force Pending e = record {
       known = h.known;
-      short = h.short;
       few_chunks = h.few_chunks;
       before = h.before;
+      before_is = h.before_is;
+      after_is = h.after_is;
       done = h.done;
       lease = λ l e'. absurd (none-some l (sym (h.pending e).lease ∙ e'));
       pending = λ e. cc;
@@ -177,9 +186,10 @@ module _ (base : List (List ℕ)) (hosts : List Host) (stopped : Bool) (leases :
     }
     by true InProgress e = record {
       known = h.known;
-      short = h.short;
       few_chunks = h.few_chunks;
       before = h.before;
+      before_is = h.before_is;
+      after_is = h.after_is;
       done = h.done;
       lease = λ l e'. IsLease-aborting t (record t { phase = Aborting }) l refl refl (h.lease l e');
       pending = λ e. cc;
@@ -202,9 +212,10 @@ module _ (base : List (List ℕ)) (hosts : List Host) (stopped : Bool) (leases :
     same : (p : Phase) → t.phase ≡ p → goes_on p ≡ false → p ≢ Pending → in_flight p ≡ false → IsTask base (map (marked b) hosts) stopped leases (record t { phase = p; doomed = t.doomed || false })
     same p e g n f = record {
       known = h.known;
-      short = h.short;
       few_chunks = h.few_chunks;
       before = h.before;
+      before_is = h.before_is;
+      after_is = h.after_is;
       done = h.done;
       lease = λ l e'. let i = (h.lease l e') in record { given = i.given; flies = rw e at i.flies; next = λ q. i.next (e ∙ q); copy = i.copy };
       pending = λ q. absurd (n q);
@@ -221,9 +232,10 @@ module _ (base : List (List ℕ)) (hosts : List Host) (stopped : Bool) (leases :
     hit : (p : Phase) → t.phase ≡ p → IsTask base (map (marked b) hosts) stopped leases (record t { phase = phase_killed p; doomed = t.doomed || in_flight p })
     hit Pending e = record {
       known = h.known;
-      short = h.short;
       few_chunks = h.few_chunks;
       before = h.before;
+      before_is = h.before_is;
+      after_is = h.after_is;
       done = h.done;
       lease = λ l e'. absurd (none-some l (sym (h.pending e).lease ∙ e'));
       pending = λ e. cc;
@@ -235,9 +247,10 @@ module _ (base : List (List ℕ)) (hosts : List Host) (stopped : Bool) (leases :
     }
     hit InProgress e = record {
       known = h.known;
-      short = h.short;
       few_chunks = h.few_chunks;
       before = h.before;
+      before_is = h.before_is;
+      after_is = h.after_is;
       done = h.done;
       lease = λ l e'. IsLease-aborting t (record t { phase = Aborting; doomed = t.doomed || true }) l refl refl (h.lease l e');
       pending = λ e. cc;
@@ -249,9 +262,10 @@ module _ (base : List (List ℕ)) (hosts : List Host) (stopped : Bool) (leases :
     }
     hit Aborting e = record {
       known = h.known;
-      short = h.short;
       few_chunks = h.few_chunks;
       before = h.before;
+      before_is = h.before_is;
+      after_is = h.after_is;
       done = h.done;
       lease = λ l e'. IsLease-aborting t (record t { phase = Aborting; doomed = t.doomed || true }) l refl refl (h.lease l e');
       pending = λ e. cc;
@@ -275,9 +289,10 @@ module _ (base : List (List ℕ)) (hosts : List Host) (stopped : Bool) (leases :
     by true n = hit t.phase refl
     by false n = record {
       known = h.known;
-      short = h.short;
       few_chunks = h.few_chunks;
       before = h.before;
+      before_is = h.before_is;
+      after_is = h.after_is;
       done = h.done;
       lease = h.lease;
       pending = h.pending;

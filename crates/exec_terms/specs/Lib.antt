@@ -1,6 +1,10 @@
+pub mod CapLaws
 pub mod Leases
+pub mod ListLaws
 pub mod Machine
 pub mod Runs
+pub mod Settled
 pub mod Stops
+pub mod Tally
 pub mod Valid
 pub mod Words

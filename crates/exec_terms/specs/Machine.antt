@@ -10,7 +10,7 @@ use Rattle.exec_terms.specs.declared.phase.Phase.TheVariants.{Pending, InProgres
 use Rattle.exec_terms.specs.declared.work.Work.{Work}
 use Rattle.exec_terms.specs.declared.work.Work.TheVariants.{Cancel}
 use Rattle.exec_terms.specs.declared.task.Task.{Task}
-use Rattle.exec_terms.specs.declared.brokers.Caps.{Caps}
+use Rattle.plan_terms.specs.declared.settings.Caps.{Caps}
 use Rattle.exec_terms.specs.declared.brokers.Host.{Host}
 use Rattle.plan_terms.specs.declared.lists.Proposal.{Proposal}
 use Rattle.exec_terms.specs.declared.replies.Given.{Given}
@@ -133,6 +133,10 @@ taken s (Ok g) = record s { tasks = slice_set s.tasks g.task (with_lease g.lease
 -- a take gives the next work, under the next number
 abbrev pub after_take : State → State
 after_take s = taken s (next_work s)
+
+-- other caps are in force, and nothing else changes
+abbrev pub after_caps : State → Caps → State
+after_caps s caps = record s { caps = caps }
 
 -- some task has not ended
 abbrev pub any_unfinished : List Task → Bool

@@ -1,14 +1,15 @@
 -- Lists of events, and what holds of the executor after each.
 use Rattle.std.specs.Prelude.{◌≡◌, ℕ, ◌<◌, ◌≤◌, Bool, true, false, ◌==◌, IsOk, Result, Ok, Err, Option, Some, List, [], ◌∷◌, length, map}
-use Rattle.std.specs.List.{All, list_all, count_by}
+use Rattle.std.specs.List.{All, filter, list_all, count_by}
 use Rattle.plan_terms.specs.Belongs.{IsReplicaList}
-use Rattle.plan_terms.specs.Cluster.{Lists, has}
+use Rattle.plan_terms.specs.Cluster.{Cluster, Lists, has}
+use Rattle.plan_terms.specs.States.{is_dead}
 use Rattle.exec_terms.specs.Words.{is_free, needs, list_shown}
-use Rattle.exec_terms.specs.Machine.{State, task_at, list_now, task_of, any_unfinished, next_work, after_take, after_launch}
+use Rattle.exec_terms.specs.Machine.{State, task_at, list_now, task_of, any_unfinished, next_work, after_take, after_launch, after_caps}
 use Rattle.exec_terms.specs.Leases.{test_lease, after_copied, after_copy_failed, after_commit, after_cancel, end_lease}
 use Rattle.exec_terms.specs.Stops.{is_host, after_stop, after_kill}
 use Rattle.exec_terms.specs.Valid.{IsValid, work_left}
-use Rattle.exec_terms.specs.declared.brokers.Caps.{Caps}
+use Rattle.plan_terms.specs.declared.settings.Caps.{Caps}
 use Rattle.exec_terms.specs.declared.brokers.Host.{Host}
 use Rattle.plan_terms.specs.declared.lists.Proposal.{Proposal}
 use Rattle.exec_terms.specs.declared.work.WorkKind.TheVariants.{Copy as ForCopy, Commit as ForCommit, Cancel as ForCancel}
@@ -28,6 +29,7 @@ pub data Event : Type 0 where
   Stops : (force : Bool) → Event
   Killed : (broker : ℕ) → Event
   Launched : (proposals : List Proposal) → Event
+  CapsSet : (caps : Caps) → Event
 
 -- what a launch asks: at most 10,000 proposals of partitions that differ, each with the list that its partition has now and a
 -- replica list of known brokers that it is to have, and no dead broker that is needed
@@ -40,7 +42,7 @@ pub record CanLaunch (s : State) (proposals : List Proposal) : Type 0 where
   pub distinct : (n : ℕ) → count_by (λ p. p.part == n) proposals ≤ 1
   pub alive : All (λ p. All (λ h. h.dead ≡ true → needs (task_of s.chunks p) h.id ≡ false) s.hosts) proposals
 
--- every other event may come in every state
+-- a launch has its conditions, and caps that are set are at least 1; every other event may come in every state
 abbrev pub CanHappen : State → Event → Type 0
 CanHappen s Take = Unit {0}
 CanHappen s (Copied lease) = Unit {0}
@@ -51,6 +53,7 @@ CanHappen s (GivenBack lease) = Unit {0}
 CanHappen s (Stops force) = Unit {0}
 CanHappen s (Killed broker) = Unit {0}
 CanHappen s (Launched proposals) = CanLaunch s proposals
+CanHappen s (CapsSet caps) = (1 ≤ caps.broker) × (1 ≤ caps.cluster) × (1 ≤ caps.leader)
 
 -- the state after an event
 abbrev pub after_event : State → Event → State
@@ -63,6 +66,7 @@ after_event s (GivenBack lease) = end_lease s lease
 after_event s (Stops force) = after_stop s force
 after_event s (Killed broker) = after_kill s broker
 after_event s (Launched proposals) = after_launch s proposals
+after_event s (CapsSet caps) = after_caps s caps
 
 -- the state after events, one after another
 abbrev pub after_events : State → List Event → State
@@ -82,6 +86,10 @@ hosts_of brokers dead = map (λ b. record { id = b; dead = has dead b }) brokers
 abbrev pub new_state : Lists → List ℕ → Caps → List Host → State
 new_state lists chunks caps hosts = record { base = lists; chunks = chunks; caps = caps; hosts = hosts; tasks = []; stopped = false; leases = 0 }
 
+-- a new executor of a case and these lists: its lost brokers are dead
+abbrev pub opening : Cluster → Lists → Caps → State
+opening c lists caps = new_state lists (map (λ p. p.chunks) c.parts) caps (hosts_of (map (λ b. b.id) c.brokers) (map (λ b. b.id) (filter (λ b. is_dead b.state) c.brokers)))
+
 -- each event keeps what is valid, whatever valid state it meets
 abbrev pub EachEventKeeps : Type 0
 EachEventKeeps = (s : State) (e : Event) → CanHappen s e → IsValid s → IsValid (after_event s e)
@@ -89,7 +97,7 @@ EachEventKeeps = (s : State) (e : Event) → CanHappen s e → IsValid s → IsV
 -- so every list of events leads from a new executor to a valid state
 abbrev pub RunsAreValid : Type 0
 RunsAreValid = (lists : Lists) (chunks : List ℕ) (caps : Caps) (hosts : List Host) (events : List Event)
-    → All (λ n. n ≤ 1000) chunks → 1 ≤ caps.broker → 1 ≤ caps.cluster → 1 ≤ caps.leader
+    → All IsReplicaList lists → All (λ n. n ≤ 1000) chunks → 1 ≤ caps.broker → 1 ≤ caps.cluster → 1 ≤ caps.leader
     → CanAllHappen (new_state lists chunks caps hosts) events
     → IsValid (after_events (new_state lists chunks caps hosts) events)
 
@@ -117,6 +125,7 @@ IsLaunch (GivenBack lease) = ⊥
 IsLaunch (Stops force) = ⊥
 IsLaunch (Killed broker) = ⊥
 IsLaunch (Launched proposals) = Unit {0}
+IsLaunch (CapsSet caps) = ⊥
 
 -- no event but a launch raises it
 abbrev pub NoEventRaises : Type 0

@@ -1,6 +1,7 @@
 -- What holds of every state of the executor, and the work that is left.
 use Rattle.std.specs.Prelude.{◌≡◌, ◌≢◌, ℕ, ◌+◌, ◌-◌, ◌<◌, ◌≤◌, Bool, true, false, IsTrue, List, length, Option, Some, None, sum_by}
 use Rattle.std.specs.List.{All, count_by}
+use Rattle.plan_terms.specs.Belongs.{IsReplicaList}
 use Rattle.plan_terms.specs.Cluster.{Lists, list_of}
 use Rattle.exec_terms.specs.Words.{in_flight, goes_on, may_be_doomed, copies, copies_left, next_step, is_for, holds, is_on, needs}
 use Rattle.exec_terms.specs.Machine.{State, adding, removing, replica_tasks, leader_tasks, unfinished_replica_tasks}
@@ -11,7 +12,7 @@ use Rattle.exec_terms.specs.declared.work.Work.{Work}
 use Rattle.exec_terms.specs.declared.work.Work.TheVariants.{Copy, Commit, Cancel}
 use Rattle.exec_terms.specs.declared.work.Lease.{Lease}
 use Rattle.exec_terms.specs.declared.task.Task.{Task}
-use Rattle.exec_terms.specs.declared.brokers.Caps.{Caps}
+use Rattle.plan_terms.specs.declared.settings.Caps.{Caps}
 use Rattle.exec_terms.specs.declared.brokers.Host.{Host}
 
 -- no more tasks are in flight than the caps allow
@@ -41,9 +42,10 @@ pub record IsUntouched (t : Task) : Type 0 where
 -- what holds of each task
 pub record IsTask (base : Lists) (hosts : List Host) (stopped : Bool) (leases : ℕ) (t : Task) : Type 0 where
   pub known : t.part < length base
-  pub short : length t.after ≤ 8
   pub few_chunks : t.chunks ≤ 1000
   pub before : t.before ≡ list_of base t.part
+  pub before_is : IsReplicaList t.before
+  pub after_is : IsReplicaList t.after
   pub done : t.done ≤ length (copies t)
   pub lease : (l : Lease) → t.lease ≡ Some l → IsLease leases t l
   pub pending : t.phase ≡ Pending → IsUntouched t
@@ -53,14 +55,15 @@ pub record IsTask (base : Lists) (hosts : List Host) (stopped : Bool) (leases : 
   pub none_waits : stopped ≡ true → t.phase ≢ Pending
   pub completed : t.phase ≡ Completed → t.done ≡ length (copies t)
 
--- what holds of every state: the caps and the order are kept, each partition has one task and each lease one holder
+-- what holds of every state: leadership waits for the replicas, each partition has one replica list and one task, and each lease one
+-- holder
 pub record IsValid (s : State) : Type 0 where
   pub broker_cap : 1 ≤ s.caps.broker
   pub cluster_cap : 1 ≤ s.caps.cluster
   pub leader_cap : 1 ≤ s.caps.leader
-  pub counts : AreCapsKept s.caps s.tasks
   pub order : IsOrderKept s.tasks
   pub few_chunks : All (λ n. n ≤ 1000) s.chunks
+  pub base_lists : All IsReplicaList s.base
   pub few_tasks : length s.tasks ≤ 10000
   pub one_task : (p : ℕ) → count_by (is_on p) s.tasks ≤ 1
   pub one_holder : (n : ℕ) → count_by (holds n) s.tasks ≤ 1

@@ -39,6 +39,33 @@ is_aborting Aborted = false
 is_aborting Completed = false
 is_aborting Dead = false
 
+-- it ended with its old list, since the execution was stopped
+abbrev pub is_aborted : Phase → Bool
+is_aborted Pending = false
+is_aborted InProgress = false
+is_aborted Aborting = false
+is_aborted Aborted = true
+is_aborted Completed = false
+is_aborted Dead = false
+
+-- it ended with its new list
+abbrev pub is_completed : Phase → Bool
+is_completed Pending = false
+is_completed InProgress = false
+is_completed Aborting = false
+is_completed Aborted = false
+is_completed Completed = true
+is_completed Dead = false
+
+-- it ended with its old list, since a broker died or copies failed
+abbrev pub has_phase_dead : Phase → Bool
+has_phase_dead Pending = false
+has_phase_dead InProgress = false
+has_phase_dead Aborting = false
+has_phase_dead Aborted = false
+has_phase_dead Completed = false
+has_phase_dead Dead = true
+
 -- a task that is to end as dead is here
 abbrev pub may_be_doomed : Phase → Bool
 may_be_doomed Pending = false

@@ -2,17 +2,6 @@
 ghost use Rattle.std.specs.Prelude.{◌≡◌};
 ghost use Rattle.exec_terms.specs.Stops.{marked};
 
-/// How many movements there may be at a time.
-#[derive(Clone, Copy, Debug)]
-pub struct Caps {
-    /// Of one broker: the tasks in flight that add it, and those that remove it.
-    pub broker: u32,
-    /// The tasks in flight that move replicas.
-    pub cluster: u32,
-    /// The tasks in flight that change a leader alone.
-    pub leader: u32,
-}
-
 /// A broker, and whether it has died.
 #[derive(Clone, Copy, Debug)]
 pub struct Host {

@@ -6,16 +6,19 @@ mod brokers;
 mod laws;
 mod phase;
 mod replies;
+mod tally;
 mod task;
 mod words;
 mod work;
 
-pub use brokers::{Caps, Host};
+pub use brokers::Host;
 pub use laws::every_execution;
 pub use phase::Phase;
+pub use plan_terms::Caps;
 pub use replies::{
     Faults, Given, Idle, KillFault, Killed, LaunchFault, LeaseFault, Left, NothingToStop, Stopped,
 };
+pub use tally::{PhaseCounts, leases_out, phase_counts};
 pub use task::Task;
 pub use words::{differs, has, leads, union};
 pub use work::{Lease, Work, WorkKind};

@@ -1,6 +1,6 @@
 // The phases of a task.
 ghost use Rattle.std.specs.Prelude.{◌≡◌};
-ghost use Rattle.exec_terms.specs.Words.{is_pending, is_in_progress, is_aborting, in_flight, is_unfinished};
+ghost use Rattle.exec_terms.specs.Words.{is_pending, is_in_progress, is_aborting, is_aborted, is_completed, has_phase_dead, in_flight, is_unfinished};
 
 /// How far a task has come.
 #[derive(Clone, Copy, Debug, PartialEq, Eq)]
@@ -39,6 +39,27 @@ impl Phase {
         ensures { result ≡ is_aborting self }
     {
         matches!(self, Phase::Aborting)
+    }
+
+    /// Whether the task ended with the old list, since the execution was stopped.
+    pub fn is_aborted(self) -> bool
+        ensures { result ≡ is_aborted self }
+    {
+        matches!(self, Phase::Aborted)
+    }
+
+    /// Whether the task ended with the new list.
+    pub fn is_completed(self) -> bool
+        ensures { result ≡ is_completed self }
+    {
+        matches!(self, Phase::Completed)
+    }
+
+    /// Whether the task ended with the old list, since a broker died or copies failed.
+    pub fn is_dead(self) -> bool
+        ensures { result ≡ has_phase_dead self }
+    {
+        matches!(self, Phase::Dead)
     }
 
     /// Whether the partition is being moved.

@@ -13,12 +13,13 @@ use Rattle.exec_terms.specs.declared.brokers.Host.{Host}
 use Rattle.exec_terms.specs.Words.{in_flight, is_pending, union_of}
 use Rattle.exec_terms.specs.Machine.{State}
 use Rattle.exec_terms.specs.Stops.{is_host, marked}
+use Rattle.exec_terms.proofs.Calm.{SameLists}
 use Rattle.cap_ledger.specs.Ledger.{Ledger, knows, gains, differ, HasRoom, IsCounted, IsKnownList, Enters}
 use Rattle.task_planner.specs.declared.slot.Slot.{Slot}
 use Rattle.task_planner.specs.Queue.{IsListOf, AreListsOf}
 use Rattle.executor_core.specs.Alone.{proposal_of}
 use Rattle.executor_core.specs.Kept.{AreCounts, slot_of, IsFixed, IsKept}
-use Rattle.executor_core.proofs.Flying.{SameLists, flying-same, flying-enter, flying-leave, flying-map, flying-some, flying-few}
+use Rattle.executor_core.proofs.Flying.{flying-same, flying-enter, flying-leave, flying-map, flying-some, flying-few}
 
 -- the lists that pass: broker b is added, or left out; the two differ, or don't
 abbrev adds_to : ℕ → List ℕ → List ℕ → Bool
@@ -161,7 +162,7 @@ counted hosts tasks l i x known read up c = record {
 }
 
 -- the lists of a task are of brokers that the counts know
-module _ (s : State) (brokers : List ℕ) (unions : Lists) (proposals : List Proposal) (l : Ledger) (queue : List Slot) (k : IsKept s brokers unions proposals l queue) where
+module _ (s : State) (brokers : List ℕ) (unions : Lists) (proposals : List Proposal) (l : Ledger) (left : ℕ) (queue : List Slot) (k : IsKept s brokers unions proposals l left queue) where
   known_is : (b : ℕ) → knows l b ≡ has brokers b
   known_is b = k.counts_are.known b ∙ is_host-has s.hosts b ∙ ap (λ (ids : List ℕ). has ids b) k.fixed.hosts_are
 

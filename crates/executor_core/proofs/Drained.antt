@@ -9,9 +9,9 @@ use Rattle.std.proofs.lemmas.List.Quantifiers.{position-Some}
 use Rattle.plan_terms.specs.Cluster.{Lists, list_of}
 use Rattle.plan_terms.specs.Change.{proposals}
 use Rattle.plan_terms.specs.declared.lists.Proposal.{Proposal}
-use Rattle.exec_terms.specs.Words.{is_unfinished, goes_on, is_free, is_on}
+use Rattle.exec_terms.specs.Words.{is_unfinished, goes_on, is_free, is_on, is_completed}
 use Rattle.exec_terms.specs.Machine.{State, no_task, task_at, next_work, after_take, any_unfinished, first_unfinished, list_by, list_now, lists_now}
-use Rattle.exec_terms.specs.declared.brokers.Caps.{Caps}
+use Rattle.plan_terms.specs.declared.settings.Caps.{Caps}
 use Rattle.exec_terms.specs.declared.brokers.Host.{Host}
 use Rattle.exec_terms.specs.declared.phase.Phase.{Phase}
 use Rattle.exec_terms.specs.declared.phase.Phase.TheVariants.{Pending, InProgress, Aborting, Aborted, Completed, Dead}
@@ -20,7 +20,7 @@ use Rattle.exec_terms.specs.declared.replies.Idle.{Idle}
 use Rattle.exec_terms.proofs.Gives.{take_gives, none_any}
 use Rattle.exec_terms.proofs.Launch.{length-each_below, get_or-each_below}
 use Rattle.exec_terms.proofs.WorkLeft.{position-None}
-use Rattle.executor_core.specs.Alone.{proposal_of, is_completed, IsAtRest, IsBetweenRounds}
+use Rattle.executor_core.specs.Alone.{proposal_of, IsAtRest, IsBetweenRounds}
 use Rattle.executor_core.proofs.Changes.{all_lead, unchanged}
 
 first_none : {X : Type 0} (p : X → Bool) (xs : List X) (d : X) → list_any p xs ≡ false → position p xs ≡ None

@@ -9,7 +9,7 @@ use Rattle.std.proofs.Math.Path.{fun_ext}
 use Rattle.plan_terms.specs.Change.{added}
 use Rattle.exec_terms.specs.declared.task.Task.{Task}
 use Rattle.exec_terms.specs.declared.brokers.Host.{Host}
-use Rattle.exec_terms.specs.declared.brokers.Caps.{Caps}
+use Rattle.plan_terms.specs.declared.settings.Caps.{Caps}
 use Rattle.exec_terms.specs.Words.{is_pending, in_flight, is_unfinished, is_replica_task}
 use Rattle.exec_terms.specs.Machine.{adding, removing, replica_tasks, leader_tasks, unfinished_replica_tasks, has_room, has_leader_room, may_start}
 use Rattle.cap_ledger.specs.Ledger.{Ledger, adding_of, removing_of, fits_in}

@@ -8,15 +8,10 @@ use Rattle.exec_terms.specs.declared.phase.Phase.{Phase}
 use Rattle.exec_terms.specs.declared.phase.Phase.TheVariants.{Pending, InProgress, Aborting, Aborted, Completed, Dead}
 use Rattle.exec_terms.specs.declared.task.Task.{Task}
 use Rattle.exec_terms.specs.Words.{in_flight, is_unfinished}
+use Rattle.exec_terms.proofs.Calm.{SameLists}
 use Rattle.exec_terms.proofs.Counts.{count_by_none, count_by_some}
 use Rattle.exec_terms.proofs.WorkLeft.{position-None}
 use Rattle.std.specs.List.{position}
-
--- the same partition and lists
-pub record SameLists (x y : Task) : Type 0 where
-  pub part : y.part ≡ x.part
-  pub before : y.before ≡ x.before
-  pub after : y.after ≡ x.after
 
 -- how many tasks in flight have lists that pass
 abbrev pub flying : (List ℕ → List ℕ → Bool) → List Task → ℕ

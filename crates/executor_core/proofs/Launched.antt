@@ -20,7 +20,7 @@ use Rattle.exec_terms.specs.Machine.{State, task_of, list_now, lists_now, after_
 use Rattle.exec_terms.specs.Valid.{IsValid, work_in, work_of_task, work_left}
 use Rattle.exec_terms.specs.Runs.{CanLaunch, hosts_of}
 use Rattle.exec_terms.specs.Stops.{is_host}
-use Rattle.exec_terms.specs.declared.brokers.Caps.{Caps}
+use Rattle.plan_terms.specs.declared.settings.Caps.{Caps}
 use Rattle.exec_terms.specs.declared.phase.Phase.{Phase}
 use Rattle.exec_terms.specs.declared.phase.Phase.TheVariants.{Pending, InProgress, Aborting, Aborted, Completed, Dead}
 use Rattle.exec_terms.specs.declared.brokers.Host.{Host}
@@ -32,7 +32,8 @@ use Rattle.exec_terms.proofs.WorkLeft.{two_most}
 use Rattle.executor_core.proofs.Beside.{is_host-has}
 use Rattle.executor_core.proofs.Brokers.{ids, lost_ids, ids_once, not_among, leads-has, members_known}
 use Rattle.executor_core.proofs.Launching.{proposals_again, ids_of_hosts}
-use Rattle.executor_core.specs.Alone.{opening, IsAtRest, IsBetweenRounds}
+use Rattle.executor_core.specs.Alone.{IsAtRest, IsBetweenRounds}
+use Rattle.exec_terms.specs.Runs.{opening}
 use Rattle.executor_core.proofs.Changes.{proposals_all, few_proposals, one_each}
 
 -- the chunk counts of a case are within the limit
@@ -55,7 +56,7 @@ work_of_one t Dead h k = omega arith
 -- an execution has little work
 few_works : (s : State) → IsValid s → work_left s ≤ 80050000
 few_works s v =
-    let each : All (λ t. work_of_task t ≤ 8005) s.tasks = λ k d l. work_of_one (get_or s.tasks k d) (get_or s.tasks k d).phase (v.each k d l).short (v.each k d l).few_chunks in
+    let each : All (λ t. work_of_task t ≤ 8005) s.tasks = λ k d l. work_of_one (get_or s.tasks k d) (get_or s.tasks k d).phase (v.each k d l).after_is.few (v.each k d l).few_chunks in
     omega (arith, sum_by-le work_of_task 8005 s.tasks each, v.few_tasks)
 
 -- what leads from one assignment of a case to another, where no list of the other has a lost member
@@ -115,7 +116,7 @@ module _ (c : Cluster) (before after : Lists) (caps : Caps) (case : IsCase c) (b
   pub rounds_begin : 1 ≤ caps.broker → 1 ≤ caps.cluster → 1 ≤ caps.leader → IsBetweenRounds before (proposals before after) caps hosts (after_launch new (proposals before after))
   rounds_begin b m l =
       let s : State = new in
-      let valid = IsValid-launch s (proposals before after) can_launch (IsValid-new before chunks caps hosts (few_chunks c case) b m l) in
+      let valid = IsValid-launch s (proposals before after) can_launch (IsValid-new before chunks caps hosts belongs.lists_are (few_chunks c case) b m l) in
       record {
         valid = valid;
         base_is = ext_get_or [] (lists_now s) before (length-each_below (list_now s) (length before)) (λ k l.

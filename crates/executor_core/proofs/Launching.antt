@@ -13,7 +13,7 @@ use Rattle.plan_terms.specs.declared.lists.Proposal.{Proposal}
 use Rattle.exec_terms.specs.declared.phase.Phase.{Phase}
 use Rattle.exec_terms.specs.declared.phase.Phase.TheVariants.{Pending, InProgress, Aborting, Aborted, Completed, Dead}
 use Rattle.exec_terms.specs.declared.task.Task.{Task}
-use Rattle.exec_terms.specs.declared.brokers.Caps.{Caps}
+use Rattle.plan_terms.specs.declared.settings.Caps.{Caps}
 use Rattle.exec_terms.specs.declared.brokers.Host.{Host}
 use Rattle.exec_terms.specs.Words.{in_flight, is_unfinished, list_in, is_on, union_of}
 use Rattle.exec_terms.specs.Machine.{State, no_task, task_at, list_by, list_now, lists_now, task_of, first_unfinished}
@@ -25,7 +25,8 @@ use Rattle.cap_ledger.specs.Ledger.{Ledger, gains, differ, IsEmpty}
 use Rattle.task_planner.specs.declared.slot.Slot.{Slot}
 use Rattle.task_planner.specs.Queue.{IsListOf, AreListsOf, waiting}
 use Rattle.executor_core.specs.Alone.{proposal_of}
-use Rattle.executor_core.specs.Kept.{AreCounts, slot_of, IsFixed, IsKept}
+use Rattle.executor_core.specs.Kept.{AreCounts, slot_of, IsFixed, unfinished_tasks, IsKept}
+use Rattle.executor_core.proofs.Unfinished.{unfinished-new}
 use Rattle.executor_core.proofs.Beside.{is_host-has}
 use Rattle.executor_core.proofs.Flying.{flying, flying-none}
 
@@ -50,7 +51,7 @@ ended_list P Dead before after e b a = b
 flying-new : (P : List ℕ → List ℕ → Bool) (chunks : List ℕ) (ps : List Proposal) → flying P (map (task_of chunks) ps) ≡ 0
 flying-new P chunks ps = all_pending (λ t. in_flight t.phase && P t.before t.after) chunks ps (λ q. refl)
 
-module _ (s : State) (brokers : List ℕ) (unions : Lists) (old : List Proposal) (l : Ledger) (queue : List Slot) (k : IsKept s brokers unions old l queue) (none : first_unfinished s ≡ None) where
+module _ (s : State) (brokers : List ℕ) (unions : Lists) (old : List Proposal) (l : Ledger) (left : ℕ) (queue : List Slot) (k : IsKept s brokers unions old l left queue) (none : first_unfinished s ≡ None) where
   task_lists : (i : ℕ) → i < length s.tasks → AreListsOf brokers (proposal_of (task_at s.tasks i))
   task_lists i m =
       let all : All (AreListsOf brokers) (map proposal_of s.tasks) = rw (← k.fixed.proposals_are) k.fixed.task_lists in
@@ -84,7 +85,7 @@ module _ (s : State) (brokers : List ℕ) (unions : Lists) (old : List Proposal)
 
   pub kept_launched : (base unions' : Lists) (tasks : List Task) (proposals copies : List Proposal) (queue' : List Slot) → CanLaunch s proposals
       → base ≡ lists_now s → tasks ≡ map (task_of s.chunks) proposals → unions' ≡ map union_of tasks → copies ≡ proposals → queue' ≡ map waiting proposals
-      → IsFixed brokers s.hosts base tasks unions' copies × AreCounts s.hosts tasks l × (queue' ≡ map slot_of tasks)
+      → IsFixed brokers s.hosts base tasks unions' copies × AreCounts s.hosts tasks l × (queue' ≡ map slot_of tasks) × (length proposals ≡ unfinished_tasks tasks)
   kept_launched base unions' tasks proposals copies queue' can b t u c q = (
     record {
       hosts_are = k.fixed.hosts_are;
@@ -104,6 +105,7 @@ module _ (s : State) (brokers : List ℕ) (unions : Lists) (old : List Proposal)
       leader = k.counts_are.leader ∙ no_change (λ before after. not (differ before after));
     },
     q ∙ sym (ap (map slot_of) t ∙ slots_are s.chunks proposals),
+    rw t (sym (unfinished-new s.chunks proposals)),
   ) where
     no_change : (P : List ℕ → List ℕ → Bool) → flying P s.tasks ≡ flying P tasks
     no_change P = flying-none P s.tasks none ∙ sym (ap (flying P) t ∙ flying-new P s.chunks proposals)
@@ -118,9 +120,9 @@ pub kept_new : (lists base : Lists) (chunks : List ℕ) (caps : Caps) (brokers d
     → base ≡ lists → ids ≡ brokers → hosts ≡ hosts_of brokers dead → tasks ≡ [] → unions ≡ [] → proposals ≡ [] → queue ≡ map waiting none → none ≡ []
     → All (λ n. n ≤ 1000) chunks → 1 ≤ caps.broker → 1 ≤ caps.cluster → 1 ≤ caps.leader
     → distinct brokers ≡ true → AreReplicaLists lists → All (λ list. list_all (has brokers) list ≡ true) lists → IsEmpty brokers l
-    → IsKept (record { base = base; chunks = chunks; caps = caps; hosts = hosts; tasks = tasks; stopped = false; leases = 0 }) ids unions proposals l queue
+    → IsKept (record { base = base; chunks = chunks; caps = caps; hosts = hosts; tasks = tasks; stopped = false; leases = 0 }) ids unions proposals l 0 queue
 kept_new lists base chunks caps brokers dead ids hosts tasks unions proposals none l queue b i h t u p q n few broker cluster leader once are known empty = rw (b, i, h, t, u, p, q, n) (record {
-  valid = IsValid-new lists chunks caps (hosts_of brokers dead) few broker cluster leader;
+  valid = IsValid-new lists chunks caps (hosts_of brokers dead) are few broker cluster leader;
   fixed = record {
     hosts_are = ids_of_hosts brokers dead;
     once = once;
@@ -136,5 +138,6 @@ kept_new lists base chunks caps brokers dead ids hosts tasks unions proposals no
     replica = empty.replica;
     leader = empty.leader;
   };
+  left_is = refl;
   queue_is = refl;
 })

@@ -6,9 +6,9 @@ pub mod Changes
 pub mod Drained
 pub mod Fitting
 pub mod Flying
-pub mod Kept
 pub mod Launched
 pub mod Launching
 pub mod Rounds
 pub mod Starts
 pub mod Turned
+pub mod Unfinished

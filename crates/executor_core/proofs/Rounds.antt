@@ -9,12 +9,12 @@ use Rattle.std.proofs.lemmas.List.Quantifiers.{position-Some}
 use Rattle.std.proofs.Math.Seq.{map-set_same}
 use Rattle.plan_terms.specs.Cluster.{Lists}
 use Rattle.plan_terms.specs.declared.lists.Proposal.{Proposal}
-use Rattle.exec_terms.specs.Words.{is_pending, is_in_progress, is_aborting, goes_on, is_free, is_for, next_step}
+use Rattle.exec_terms.specs.Words.{is_pending, is_in_progress, is_aborting, goes_on, is_free, is_for, next_step, is_completed}
 use Rattle.exec_terms.specs.Machine.{State, no_task, task_at, may_start, given, or_start, or_step, or_cancel, next_work, started, with_lease, after_take}
 use Rattle.exec_terms.specs.Leases.{test_lease, ended, one_copied, committed, after_copied, after_commit}
 use Rattle.exec_terms.specs.Valid.{IsValid, work_left}
 use Rattle.exec_terms.specs.Runs.{Take, IsAnswered}
-use Rattle.exec_terms.specs.declared.brokers.Caps.{Caps}
+use Rattle.plan_terms.specs.declared.settings.Caps.{Caps}
 use Rattle.exec_terms.specs.declared.brokers.Host.{Host}
 use Rattle.exec_terms.specs.declared.phase.Phase.{Phase}
 use Rattle.exec_terms.specs.declared.phase.Phase.TheVariants.{Pending, InProgress, Aborting, Aborted, Completed, Dead}
@@ -32,7 +32,7 @@ use Rattle.exec_terms.proofs.Events.{IsValid-copied, IsValid-commit, next_step-n
 use Rattle.exec_terms.proofs.Gives.{no_event_raises}
 use Rattle.exec_terms.proofs.Take.{IsValid-take}
 use Rattle.exec_terms.proofs.WorkLeft.{events_lower}
-use Rattle.executor_core.specs.Alone.{proposal_of, is_completed, IsAtRest, IsBetweenRounds, after_report, IsOut}
+use Rattle.executor_core.specs.Alone.{proposal_of, IsAtRest, IsBetweenRounds, after_report, IsOut}
 
 rest_goes_on : (p : Phase) → (goes_on p || is_completed p) ≡ true → is_aborting p ≡ true → false ≡ true
 rest_goes_on Pending h a = a

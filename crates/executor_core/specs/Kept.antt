@@ -1,12 +1,12 @@
 -- What the executor keeps beside its state.
 use Rattle.std.specs.Prelude.{◌≡◌, ℕ, true, List, map}
-use Rattle.std.specs.List.{All}
+use Rattle.std.specs.List.{All, count_by}
 use Rattle.plan_terms.specs.Belongs.{distinct}
 use Rattle.plan_terms.specs.Cluster.{Lists}
 use Rattle.plan_terms.specs.declared.lists.Proposal.{Proposal}
 use Rattle.exec_terms.specs.declared.task.Task.{Task}
 use Rattle.exec_terms.specs.declared.brokers.Host.{Host}
-use Rattle.exec_terms.specs.Words.{is_pending, union_of}
+use Rattle.exec_terms.specs.Words.{is_pending, is_unfinished, union_of}
 use Rattle.exec_terms.specs.Machine.{State, adding, removing, replica_tasks, leader_tasks}
 use Rattle.exec_terms.specs.Stops.{is_host}
 use Rattle.exec_terms.specs.Valid.{IsValid}
@@ -37,9 +37,14 @@ pub record IsFixed (brokers : List ℕ) (hosts : List Host) (base : Lists) (task
   pub unions_are : unions ≡ map union_of tasks
   pub proposals_are : proposals ≡ map proposal_of tasks
 
+-- how many tasks have not ended
+abbrev pub unfinished_tasks : List Task → ℕ
+unfinished_tasks tasks = count_by (λ t. is_unfinished t.phase) tasks
+
 -- a valid state, and what is kept beside it
-pub record IsKept (s : State) (brokers : List ℕ) (unions : Lists) (proposals : List Proposal) (counts : Ledger) (queue : List Slot) : Type 0 where
+pub record IsKept (s : State) (brokers : List ℕ) (unions : Lists) (proposals : List Proposal) (counts : Ledger) (left : ℕ) (queue : List Slot) : Type 0 where
   pub valid : IsValid s
   pub fixed : IsFixed brokers s.hosts s.base s.tasks unions proposals
   pub counts_are : AreCounts s.hosts s.tasks counts
+  pub left_is : left ≡ unfinished_tasks s.tasks
   pub queue_is : queue ≡ map slot_of s.tasks

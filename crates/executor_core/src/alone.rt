@@ -7,8 +7,8 @@ ghost use Rattle.plan_terms.specs.Faults.{IsCase};
 ghost use Rattle.plan_terms.specs.Legal.{is_lost};
 ghost use Rattle.plan_terms.specs.States.{is_dead};
 ghost use Rattle.exec_terms.specs.Machine.{first_unfinished, lists_now, after_launch};
-ghost use Rattle.exec_terms.specs.Runs.{CanLaunch};
-ghost use Rattle.executor_core.specs.Alone.{opening, proposal_of, IsBetweenRounds, IsOut, after_report};
+ghost use Rattle.exec_terms.specs.Runs.{CanLaunch, opening};
+ghost use Rattle.executor_core.specs.Alone.{proposal_of, IsBetweenRounds, IsOut, after_report};
 
 use crate::Exec;
 use cap_ledger::Caps;

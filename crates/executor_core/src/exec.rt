@@ -3,11 +3,14 @@ ghost use Rattle.std.specs.Prelude.{◌≡◌, ◌↔◌, ◌+◌, ◌<◌, ◌�
 ghost use Rattle.std.specs.List.{All, list_all, position};
 ghost use Rattle.plan_terms.specs.Belongs.{distinct};
 ghost use Rattle.plan_terms.specs.Cluster.{has};
-ghost use Rattle.exec_terms.specs.Machine.{next_work, may_start, task_at, taken, after_take, after_launch, first_unfinished, list_now, lists_now};
+ghost use Rattle.exec_terms.specs.Machine.{next_work, may_start, task_at, any_unfinished, taken, after_take, after_launch, after_caps, first_unfinished, list_now, lists_now};
 ghost use Rattle.exec_terms.specs.Leases.{test_lease, end_lease, after_copied, copied_reply, after_copy_failed, copy_failed_reply, after_commit, commit_reply, after_cancel, cancel_reply, give_back_reply, held, held_for};
-ghost use Rattle.exec_terms.specs.Stops.{after_stop, stop_reply, after_kill, kill_reply};
+ghost use Rattle.exec_terms.specs.Stops.{after_stop, stop_reply, after_kill, kill_reply, has_died};
 ghost use Rattle.exec_terms.specs.Words.{is_aborting, is_cancel, union_of, list_shown};
 ghost use Rattle.exec_terms.specs.Runs.{new_state, hosts_of, CanLaunch, IsExecuting};
+ghost use Rattle.exec_terms.specs.Settled.{settled, settled_in, settled_lists};
+ghost use Rattle.exec_terms.specs.Tally.{leases_out, phase_counts};
+ghost use Rattle.exec_terms.specs.Valid.{IsValid};
 ghost use Rattle.executor_core.specs.Alone.{proposal_of};
 ghost use Rattle.executor_core.specs.Kept.{AreCounts};
 ghost use Rattle.executor_core.specs.Launch.{fits_launch, may_launch};
@@ -16,7 +19,7 @@ use crate::{admit, change, scan};
 use cap_ledger::{Caps, Counts};
 use exec_terms::{
     Faults, Given, Host, Idle, KillFault, Killed, LaunchFault, LeaseFault, Left, NothingToStop,
-    Phase, Stopped, Task, Work, WorkKind,
+    Phase, PhaseCounts, Stopped, Task, Work, WorkKind, leases_out, phase_counts,
 };
 use load_model::Assign;
 use plan_terms::{Memory, Proposal, Replicas};
@@ -42,6 +45,8 @@ pub struct Exec {
     proposals: Vec<Proposal>,
     // what the tasks in flight add, remove and move
     counts: Counts,
+    // how many tasks have not ended
+    unfinished: u32,
     // the tasks, and which of them wait
     queue: TaskQueue,
 }
@@ -54,7 +59,7 @@ impl Model for Exec {
 
     ghost view = { λ e. record { base = e.base.items; chunks = e.chunks.items; caps = e.caps; hosts = e.hosts.items; tasks = e.tasks.items; stopped = e.stopped; leases = e.leases } };
 
-    ghost invariant = { λ e. IsKept (record { base = e.base.items; chunks = e.chunks.items; caps = e.caps; hosts = e.hosts.items; tasks = e.tasks.items; stopped = e.stopped; leases = e.leases }) e.brokers.items e.unions.items e.proposals.items e.counts e.queue };
+    ghost invariant = { λ e. IsKept (record { base = e.base.items; chunks = e.chunks.items; caps = e.caps; hosts = e.hosts.items; tasks = e.tasks.items; stopped = e.stopped; leases = e.leases }) e.brokers.items e.unions.items e.proposals.items e.counts e.unfinished e.queue };
 }
 
 impl Exec {
@@ -91,6 +96,7 @@ impl Exec {
             brokers: Vec::from_slice(alloc, brokers)?,
             unions: Vec::new(alloc),
             counts: Counts::new(alloc, brokers)?,
+            unfinished: 0,
             queue: TaskQueue::new(alloc, brokers, none.as_slice())?,
             proposals: none,
         })
@@ -161,6 +167,7 @@ impl Exec {
         self.tasks = tasks;
         self.unions = unions;
         self.proposals = copies;
+        self.unfinished = proposals.len() as u32;
         self.queue = queue;
         self.stopped = false;
         Ok(())
@@ -302,6 +309,7 @@ impl Exec {
                 let task = &mut self.tasks[i as usize];
                 self.counts
                     .leave(task.before.as_slice(), task.after.as_slice());
+                self.unfinished -= 1;
                 task.commit();
                 Ok(())
             }
@@ -323,6 +331,7 @@ impl Exec {
                 let task = &mut self.tasks[i as usize];
                 self.counts
                     .leave(task.before.as_slice(), task.after.as_slice());
+                self.unfinished -= 1;
                 task.cancel();
                 Ok(task.phase)
             }
@@ -364,7 +373,7 @@ impl Exec {
         ensures state { self.new ≡ after_stop self.old force }
         ensures reply { result ≡ stop_reply self.old force }
     {
-        if !scan::any_unfinished(self.tasks.as_slice()) {
+        if !self.is_executing() {
             return Err(NothingToStop);
         }
         let aborted = scan::count_pending(self.tasks.as_slice()) as u32;
@@ -375,6 +384,7 @@ impl Exec {
         };
         change::drop_waiting(&mut self.queue, self.tasks.as_slice());
         change::stop_all(&mut self.tasks, force);
+        self.unfinished -= aborted;
         self.stopped = true;
         Ok(Stopped { aborted, aborting })
     }
@@ -394,6 +404,7 @@ impl Exec {
         let aborting = scan::count_going_to(self.tasks.as_slice(), broker) as u32;
         change::drop_doomed(&mut self.queue, self.tasks.as_slice(), broker);
         change::kill_all(&mut self.tasks, broker);
+        self.unfinished -= dead;
         change::mark_all(&mut self.hosts, broker);
         Ok(Killed { dead, aborting })
     }
@@ -432,6 +443,91 @@ impl Exec {
             lists.push(Replicas::new(ids))?;
         }
         Ok(lists)
+    }
+
+    // The settled list of the partition at a place.
+    fn settled_at(&self, part: usize) -> &[u32]
+        requires { part < length self.now.base }
+        ensures { result.now ≡ settled self.now part }
+    {
+        let tasks = self.tasks.as_slice();
+        match scan::first_on(tasks, part) {
+            None => self.base[part].as_slice(),
+            Some(i) => settled_of(&tasks[i]),
+        }
+    }
+
+    /// The settled lists of all partitions, in order: the present lists, but the old one of a task in flight.
+    pub fn settled_lists(&self, alloc: Global) -> Result<Vec<Replicas>, Memory>
+        ensures { IfOk result (λ lists. lists.items ≡ settled_lists self.now) }
+    {
+        let mut lists = Vec::new(alloc);
+        for part in 0..self.base.len() {
+            let ids = Vec::from_slice(alloc, self.settled_at(part))?;
+            lists.push(Replicas::new(ids))?;
+        }
+        Ok(lists)
+    }
+
+    /// The list that a task's partition has while it is moved: the old list first, and then what the new one adds.
+    pub fn union(&self, task: u32) -> &[u32]
+        requires { task < length self.now.tasks }
+        ensures { result.now ≡ union_of (task_at self.now.tasks task) }
+    {
+        self.unions[task as usize].as_slice()
+    }
+
+    /// From now on these caps are in force. Tasks in flight go on, and none starts before there is room for it.
+    pub fn set_caps(&mut self, caps: Caps)
+        requires broker_cap { 1 ≤ caps.broker }
+        requires cluster_cap { 1 ≤ caps.cluster }
+        requires leader_cap { 1 ≤ caps.leader }
+        ensures { self.new ≡ after_caps self.old caps }
+    {
+        self.caps = caps;
+    }
+
+    /// The caps in force.
+    pub fn caps(&self) -> Caps
+        ensures { result ≡ self.now.caps }
+    {
+        self.caps
+    }
+
+    /// Whether a task is unfinished.
+    pub fn is_executing(&self) -> bool
+        ensures { result ≡ any_unfinished self.now.tasks }
+    {
+        self.unfinished > 0
+    }
+
+    /// How many tasks are in each phase.
+    pub fn phase_counts(&self) -> PhaseCounts
+        ensures { result ≡ phase_counts self.now.tasks }
+    {
+        phase_counts(self.tasks.as_slice())
+    }
+
+    /// How many leases are out.
+    pub fn leases_out(&self) -> u32
+        ensures { result ≡ leases_out self.now.tasks }
+    {
+        leases_out(self.tasks.as_slice())
+    }
+
+    /// Whether a broker is known and has died.
+    pub fn has_died(&self, broker: u32) -> bool
+        ensures { result ≡ has_died self.now.hosts broker }
+    {
+        scan::has_died(self.hosts.as_slice(), broker)
+    }
+
+    /// What holds of every state of the executor holds of this one.
+    pub fn state_is_valid(&self)
+        ensures { IsValid self.now }
+    {
+        // what the type keeps is known once a field is read
+        let _caps = self.caps;
     }
 
     /// The phase of a task.
@@ -534,5 +630,16 @@ fn shown<'a>(task: &'a Task, union: &'a Replicas) -> &'a [u32]
         Phase::Completed => task.after.as_slice(),
         Phase::InProgress | Phase::Aborting => union.as_slice(),
         _ => task.before.as_slice(),
+    }
+}
+
+// The settled list of a task's partition.
+fn settled_of(task: &Task) -> &[u32]
+    ensures { result.now ≡ settled_in task.now.phase task.now.before task.now.after }
+{
+    if task.phase.is_completed() {
+        task.after.as_slice()
+    } else {
+        task.before.as_slice()
     }
 }

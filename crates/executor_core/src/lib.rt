@@ -11,3 +11,12 @@ mod tests;
 
 pub use alone::{avoids_lost, carry_out, opened};
 pub use exec::Exec;
+
+// the types that the calls speak of
+pub use cap_ledger::Counts;
+pub use exec_terms::{
+    Faults, Given, Idle, KillFault, Killed, LaunchFault, LeaseFault, Left, NothingToStop, Phase,
+    PhaseCounts, Stopped, Work, WorkKind,
+};
+pub use load_model::{Assign, Case};
+pub use plan_terms::{Caps, Memory, Proposal, Replicas};

@@ -1,15 +1,17 @@
 // Executions of four partitions on the brokers 0 to 5: call by call, disturbed before each event, and whole.
-// Each call stands in a function of its own that promises nothing, so that no proof follows the executor's state.
-ghost use Rattle.std.specs.Prelude.{◌≡◌, IfOk, length, slice_index};
+ghost use Rattle.std.specs.Prelude.{◌≡◌, ◌≤◌, IfOk, false, length, slice_index};
+ghost use Rattle.std.specs.List.{All, list_any};
 ghost use Rattle.plan_terms.specs.Belongs.{Belongs};
+ghost use Rattle.plan_terms.specs.Legal.{is_lost};
 
 use super::*;
 use crate::alone::launched;
 use cap_ledger::Caps;
-use exec_terms::{Given, Idle, Work};
+use exec_terms::{Given, Work};
 use load_model::{Assign, Broker, BrokerState, Case, Loads, Options, Part, Ratio, Topic};
-use plan_terms::Replicas;
-use std::alloc::{AllocError, Global};
+use plan_terms::{Memory, MinLeadersList, Replicas};
+use std::alloc::Global;
+use std::fmt::Debug;
 use std::process::Abort;
 use std::test::Fail;
 
@@ -28,7 +30,7 @@ fn part(alloc: Global, number: u32, chunks: u32) -> Result<Part, Fail>
     })
 }
 
-fn options() -> Result<Options, Fail> {
+fn options(alloc: Global) -> Result<Options, Fail> {
     let one = Ratio::new(1, 1).ok_or("no ratio")?;
     Ok(Options {
         limit: [one, one, one, one],
@@ -38,6 +40,7 @@ fn options() -> Result<Options, Fail> {
         topic_balance: one,
         max_replicas: 10,
         leads_only: false,
+        min_leaders: MinLeadersList::new(Vec::new(alloc)),
     })
 }
 
@@ -63,7 +66,7 @@ fn case(alloc: Global, chunks: u32) -> Result<Case, Fail>
         part(alloc, 2, chunks)?,
         part(alloc, 3, chunks)?,
     ]?;
-    Ok(Case::new(alloc, brokers(alloc)?, parts, options()?)?)
+    Ok(Case::new(alloc, brokers(alloc)?, parts, options(alloc)?)?)
 }
 
 // Each partition on one broker.
@@ -81,12 +84,13 @@ fn assignment(alloc: Global, case: &Case, on: [u32; 4]) -> Result<Assign, Fail>
     Ok(Assign::new(alloc, case, lists)?)
 }
 
-// An executor that has launched what moves the partitions.
+// An executor that has launched what moves the partitions, or has carried it out.
 fn moving(
     rt: &impl Abort,
     alloc: Global,
     broker: u32,
     chunks: u32,
+    whole: bool,
     from: [u32; 4],
     to: [u32; 4],
 ) -> Result<Exec, Fail> {
@@ -94,162 +98,136 @@ fn moving(
     let before = assignment(alloc, &case, from)?;
     let after = assignment(alloc, &case, to)?;
     assert!(rt; broker >= 1);
-    assert!(rt; avoids_lost(&case, &after));
-    let caps = Caps {
+    avoid_lost(rt, &case, &after);
+    Ok(begin(alloc, &case, caps(broker), whole, &before, &after)?)
+}
+
+// Launches what moves the partitions, or carries it out.
+fn begin(
+    alloc: Global,
+    case: &Case,
+    caps: Caps,
+    whole: bool,
+    before: &Assign,
+    after: &Assign,
+) -> Result<Exec, Memory>
+    requires broker_cap { 1 ≤ caps.broker }
+    requires cluster_cap { 1 ≤ caps.cluster }
+    requires leader_cap { 1 ≤ caps.leader }
+    requires before { Belongs case.now before.now }
+    requires after { Belongs case.now after.now }
+    requires no_lost { All (λ list. list_any (is_lost case.now) list ≡ false) after.now }
+{
+    if whole {
+        carry_out(alloc, case, caps, before, after)
+    } else {
+        launched(alloc, case, caps, before, after)
+    }
+}
+
+// The lists have no lost broker.
+fn avoid_lost(rt: &impl Abort, case: &Case, lists: &Assign)
+    ensures { All (λ list. list_any (is_lost case.now) list ≡ false) lists.now }
+{
+    assert!(rt; avoids_lost(case, lists));
+}
+
+fn caps(broker: u32) -> Caps
+    ensures { result ≡ record { broker = broker; cluster = 10; leader = 10 } }
+{
+    Caps {
         broker,
         cluster: 10,
         leader: 10,
-    };
-    Ok(launched(alloc, &case, caps, &before, &after)?)
-}
-
-fn take(rt: &impl Abort, exec: &mut Exec) -> Result<Given, Idle> {
-    assert!(rt; exec.leases() < 100);
-    exec.take()
-}
-
-fn takes(rt: &impl Abort, alloc: Global, exec: &mut Exec) -> Result<String, AllocError> {
-    format!(in alloc; "{:?}", take(rt, exec))
-}
-
-fn copied(alloc: Global, exec: &mut Exec, lease: u64) -> Result<String, AllocError> {
-    format!(in alloc; "{:?}", exec.copied(lease))
-}
-
-fn copy_failed(alloc: Global, exec: &mut Exec, lease: u64) -> Result<String, AllocError> {
-    format!(in alloc; "{:?}", exec.copy_failed(lease))
-}
-
-fn commit(alloc: Global, exec: &mut Exec, lease: u64) -> Result<String, AllocError> {
-    format!(in alloc; "{:?}", exec.commit(lease))
-}
-
-fn cancel(alloc: Global, exec: &mut Exec, lease: u64) -> Result<String, AllocError> {
-    format!(in alloc; "{:?}", exec.cancel(lease))
-}
-
-fn give_back(alloc: Global, exec: &mut Exec, lease: u64) -> Result<String, AllocError> {
-    format!(in alloc; "{:?}", exec.give_back(lease))
-}
-
-fn held(alloc: Global, exec: &Exec, lease: u64) -> Result<String, AllocError> {
-    format!(in alloc; "{:?}", exec.held(lease))
-}
-
-fn stop(alloc: Global, exec: &mut Exec, force: bool) -> Result<String, AllocError> {
-    format!(in alloc; "{:?}", exec.stop(force))
-}
-
-fn kill(alloc: Global, exec: &mut Exec, broker: u32) -> Result<String, AllocError> {
-    format!(in alloc; "{:?}", exec.kill(broker))
-}
-
-fn launch_none(rt: &impl Abort, alloc: Global, exec: &mut Exec) -> Result<String, AllocError> {
-    let nothing = Vec::new(alloc);
-    assert!(rt; exec.can_launch(&nothing));
-    format!(in alloc; "{:?}", exec.launch(alloc, &nothing))
-}
-
-fn adding(alloc: Global, exec: &Exec, broker: u32) -> Result<String, AllocError> {
-    format!(in alloc; "{:?}", exec.counts().adding(broker))
-}
-
-fn members(lists: &[Replicas], part: u32) -> &[u32] {
-    match lists.get(part as usize) {
-        None => &[],
-        Some(list) => list.as_slice(),
     }
 }
 
-fn list(alloc: Global, exec: &Exec, part: u32) -> Result<String, AllocError> {
-    match exec.lists_now(alloc) {
-        Err(_) => Err(AllocError),
-        Ok(lists) => format!(in alloc; "{:?}", members(&lists, part)),
-    }
-}
-
-// A worker's report.
-#[derive(Clone, Copy)]
-enum Report {
-    Copied,
-    CopyFailed,
-    Commit,
-    Cancel,
-    GiveBack,
-}
-
-fn make_report(
-    alloc: Global,
-    exec: &mut Exec,
-    report: Report,
-    lease: u64,
-) -> Result<String, AllocError> {
-    match report {
-        Report::Copied => copied(alloc, exec, lease),
-        Report::CopyFailed => copy_failed(alloc, exec, lease),
-        Report::Commit => commit(alloc, exec, lease),
-        Report::Cancel => cancel(alloc, exec, lease),
-        Report::GiveBack => give_back(alloc, exec, lease),
-    }
-}
-
-#[derive(Clone, Copy)]
+#[derive(Drop)]
 enum Call {
     Take,
-    Report(Report, u64),
+    Copied(u64),
+    CopyFailed(u64),
+    Commit(u64),
+    Cancel(u64),
+    GiveBack(u64),
     Held(u64),
     Stop(bool),
     Kill(u32),
+    // the cap of a broker
+    SetCaps(u32),
     LaunchNone,
     List(u32),
+    Settled(u32),
     Adding(u32),
 }
 
-// What the call answers, in words.
-fn answer(
-    rt: &impl Abort,
-    alloc: Global,
-    exec: &mut Exec,
-    call: Call,
-) -> Result<String, AllocError> {
-    match call {
-        Call::Take => takes(rt, alloc, exec),
-        Call::Report(kind, lease) => make_report(alloc, exec, kind, lease),
-        Call::Held(lease) => held(alloc, exec, lease),
-        Call::Stop(force) => stop(alloc, exec, force),
-        Call::Kill(broker) => kill(alloc, exec, broker),
-        Call::LaunchNone => launch_none(rt, alloc, exec),
-        Call::List(part) => list(alloc, exec, part),
-        Call::Adding(broker) => adding(alloc, exec, broker),
+// A call, and its answer in words.
+type Row = (Call, &'static str);
+
+fn say<T: Debug>(alloc: Global, answer: &T) -> Result<String, Fail> {
+    Ok(format!(in alloc; "{:?}", answer)?)
+}
+
+fn member(alloc: Global, lists: &[Replicas], part: u32) -> Result<String, Fail> {
+    match lists.get(part as usize) {
+        None => say(alloc, &"no list"),
+        Some(list) => say(alloc, &list.as_slice()),
     }
 }
 
-fn says(
-    rt: &impl Abort,
-    alloc: Global,
-    exec: &mut Exec,
-    call: Call,
-    want: &str,
-) -> Result<(), Fail> {
-    let got = answer(rt, alloc, exec, call)?;
-    assert_eq!(rt; got.as_str(), want);
-    Ok(())
+// A worker's report, or a request for work.
+fn work(rt: &impl Abort, alloc: Global, exec: &mut Exec, call: &Call) -> Result<String, Fail> {
+    match call {
+        Call::Copied(lease) => say(alloc, &exec.copied(*lease)),
+        Call::CopyFailed(lease) => say(alloc, &exec.copy_failed(*lease)),
+        Call::Commit(lease) => say(alloc, &exec.commit(*lease)),
+        Call::Cancel(lease) => say(alloc, &exec.cancel(*lease)),
+        Call::GiveBack(lease) => say(alloc, &exec.give_back(*lease)),
+        _ => {
+            assert!(rt; exec.leases() < 100);
+            say(alloc, &exec.take())
+        }
+    }
 }
 
-fn play(
-    rt: &impl Abort,
-    alloc: Global,
-    exec: &mut Exec,
-    calls: &[(Call, &str)],
-) -> Result<(), Fail> {
-    for (call, want) in calls {
-        says(rt, alloc, exec, *call, want)?;
+// The caps after these were set.
+fn set_caps(rt: &impl Abort, alloc: Global, exec: &mut Exec, broker: u32) -> Result<String, Fail> {
+    assert!(rt; broker >= 1);
+    exec.set_caps(caps(broker));
+    say(alloc, &exec.caps())
+}
+
+fn launch_none(rt: &impl Abort, alloc: Global, exec: &mut Exec) -> Result<String, Fail> {
+    let nothing = Vec::new(alloc);
+    assert!(rt; exec.can_launch(&nothing));
+    say(alloc, &exec.launch(alloc, &nothing))
+}
+
+// What the call answers, in words.
+fn answer(rt: &impl Abort, alloc: Global, exec: &mut Exec, call: &Call) -> Result<String, Fail> {
+    match call {
+        Call::Held(lease) => say(alloc, &exec.held(*lease)),
+        Call::Stop(force) => say(alloc, &exec.stop(*force)),
+        Call::Kill(broker) => say(alloc, &exec.kill(*broker)),
+        Call::SetCaps(broker) => set_caps(rt, alloc, exec, *broker),
+        Call::LaunchNone => launch_none(rt, alloc, exec),
+        Call::List(part) => member(alloc, &exec.lists_now(alloc)?, *part),
+        Call::Settled(part) => member(alloc, &exec.settled_lists(alloc)?, *part),
+        Call::Adding(broker) => say(alloc, &exec.counts().adding(*broker)),
+        _ => work(rt, alloc, exec, call),
+    }
+}
+
+fn play(rt: &impl Abort, alloc: Global, exec: &mut Exec, rows: &[Row]) -> Result<(), Fail> {
+    for (call, want) in rows {
+        let got = answer(rt, alloc, exec, call)?;
+        assert_eq!(rt; got.as_str(), *want);
     }
     Ok(())
 }
 
 // More tasks wait than the cap of a broker lets start.
-const FULL: [(Call, &str); 15] = [
+const FULL: [Row; 15] = [
     (
         Call::Take,
         "Ok(Given { lease: 1, task: 0, part: 0, work: Copy { to: 1, chunk: 0 }, starts: true })",
@@ -259,9 +237,9 @@ const FULL: [(Call, &str); 15] = [
         "Ok(Given { lease: 2, task: 3, part: 3, work: Copy { to: 5, chunk: 0 }, starts: true })",
     ),
     (Call::Take, "Err(CapsFull)"),
-    (Call::Report(Report::Copied, 2), "Ok(Left(0))"),
-    (Call::Report(Report::Copied, 2), "Err(Stale(2))"),
-    (Call::Report(Report::CopyFailed, 1), "Ok(Faults(1))"),
+    (Call::Copied(2), "Ok(Left(0))"),
+    (Call::Copied(2), "Err(Stale(2))"),
+    (Call::CopyFailed(1), "Ok(Faults(1))"),
     (
         Call::Take,
         "Ok(Given { lease: 3, task: 0, part: 0, work: Copy { to: 1, chunk: 0 }, starts: false })",
@@ -279,46 +257,82 @@ const FULL: [(Call, &str); 15] = [
     ),
 ];
 
-// A forced stop comes before the commit.
-const FORCED_STOP: [(Call, &str); 8] = [
+// A cap is lowered while more tasks than it allows are in flight.
+const LOWERED: [Row; 12] = [
     (
         Call::Take,
         "Ok(Given { lease: 1, task: 0, part: 0, work: Copy { to: 1, chunk: 0 }, starts: true })",
     ),
-    (Call::Report(Report::Copied, 1), "Ok(Left(0))"),
+    (
+        Call::Take,
+        "Ok(Given { lease: 2, task: 1, part: 1, work: Copy { to: 2, chunk: 0 }, starts: true })",
+    ),
+    (
+        Call::SetCaps(1),
+        "Caps { broker: 1, cluster: 10, leader: 10 }",
+    ),
+    (Call::Take, "Err(CapsFull)"),
+    (Call::Copied(1), "Ok(Left(0))"),
+    (
+        Call::Take,
+        "Ok(Given { lease: 3, task: 0, part: 0, work: Commit, starts: false })",
+    ),
+    (Call::Commit(3), "Ok(())"),
+    (Call::Take, "Err(CapsFull)"),
+    (Call::Copied(2), "Ok(Left(0))"),
+    (
+        Call::Take,
+        "Ok(Given { lease: 4, task: 1, part: 1, work: Commit, starts: false })",
+    ),
+    (Call::Commit(4), "Ok(())"),
+    (
+        Call::Take,
+        "Ok(Given { lease: 5, task: 2, part: 2, work: Copy { to: 3, chunk: 0 }, starts: true })",
+    ),
+];
+
+// A forced stop comes before the commit.
+const FORCED_STOP: [Row; 8] = [
+    (
+        Call::Take,
+        "Ok(Given { lease: 1, task: 0, part: 0, work: Copy { to: 1, chunk: 0 }, starts: true })",
+    ),
+    (Call::Copied(1), "Ok(Left(0))"),
     (
         Call::Take,
         "Ok(Given { lease: 2, task: 0, part: 0, work: Commit, starts: false })",
     ),
     (Call::Stop(true), "Ok(Stopped { aborted: 0, aborting: 1 })"),
-    (Call::Report(Report::Commit, 2), "Err(AbortAsked)"),
+    (Call::Commit(2), "Err(AbortAsked)"),
     (
         Call::Take,
         "Ok(Given { lease: 3, task: 0, part: 0, work: Cancel, starts: false })",
     ),
-    (Call::Report(Report::Cancel, 3), "Ok(Aborted)"),
+    (Call::Cancel(3), "Ok(Aborted)"),
     (Call::List(0), "[0]"),
 ];
 
 // A soft stop does.
-const SOFT_STOP: [(Call, &str); 7] = [
+const SOFT_STOP: [Row; 9] = [
     (
         Call::Take,
         "Ok(Given { lease: 1, task: 0, part: 0, work: Copy { to: 1, chunk: 0 }, starts: true })",
     ),
-    (Call::Report(Report::Copied, 1), "Ok(Left(0))"),
+    (Call::Copied(1), "Ok(Left(0))"),
     (
         Call::Take,
         "Ok(Given { lease: 2, task: 0, part: 0, work: Commit, starts: false })",
     ),
     (Call::Stop(false), "Ok(Stopped { aborted: 0, aborting: 0 })"),
-    (Call::Report(Report::Commit, 2), "Ok(())"),
+    (Call::Settled(0), "[0]"),
+    (Call::Commit(2), "Ok(())"),
     (Call::List(0), "[1]"),
+    (Call::Settled(0), "[1]"),
     (Call::Take, "Err(NoExecution)"),
 ];
 
 // The broker that the task adds dies while it is copied to.
-const DEATH: [(Call, &str); 12] = [
+const DEATH: [Row; 12] = [
     (
         Call::Take,
         "Ok(Given { lease: 1, task: 0, part: 0, work: Copy { to: 1, chunk: 0 }, starts: true })",
@@ -327,20 +341,20 @@ const DEATH: [(Call, &str); 12] = [
     (Call::List(0), "[0, 1]"),
     (Call::Stop(true), "Ok(Stopped { aborted: 0, aborting: 0 })"),
     (Call::Take, "Err(AllLeased)"),
-    (Call::Report(Report::Copied, 1), "Err(AbortAsked)"),
+    (Call::Copied(1), "Err(AbortAsked)"),
     (
         Call::Take,
         "Ok(Given { lease: 2, task: 0, part: 0, work: Cancel, starts: false })",
     ),
     (Call::Adding(1), "1"),
-    (Call::Report(Report::Cancel, 2), "Ok(Dead)"),
+    (Call::Cancel(2), "Ok(Dead)"),
     (Call::List(0), "[0]"),
     (Call::Adding(1), "0"),
     (Call::Stop(true), "Err(NothingToStop)"),
 ];
 
 // A lease is given back, and then each copy fails.
-const FAULTS: [(Call, &str); 14] = [
+const FAULTS: [Row; 14] = [
     (
         Call::Take,
         "Ok(Given { lease: 1, task: 0, part: 0, work: Copy { to: 1, chunk: 0 }, starts: true })",
@@ -349,62 +363,210 @@ const FAULTS: [(Call, &str); 14] = [
         Call::Held(1),
         "Some(Given { lease: 1, task: 0, part: 0, work: Copy { to: 1, chunk: 0 }, starts: false })",
     ),
-    (Call::Report(Report::GiveBack, 1), "Ok(())"),
+    (Call::GiveBack(1), "Ok(())"),
     (Call::Held(1), "None"),
-    (Call::Report(Report::GiveBack, 1), "Err(Stale(1))"),
+    (Call::GiveBack(1), "Err(Stale(1))"),
     (
         Call::Take,
         "Ok(Given { lease: 2, task: 0, part: 0, work: Copy { to: 1, chunk: 0 }, starts: false })",
     ),
-    (Call::Report(Report::CopyFailed, 2), "Ok(Faults(1))"),
+    (Call::CopyFailed(2), "Ok(Faults(1))"),
     (
         Call::Take,
         "Ok(Given { lease: 3, task: 0, part: 0, work: Copy { to: 1, chunk: 0 }, starts: false })",
     ),
-    (Call::Report(Report::CopyFailed, 3), "Ok(Faults(2))"),
+    (Call::CopyFailed(3), "Ok(Faults(2))"),
     (
         Call::Take,
         "Ok(Given { lease: 4, task: 0, part: 0, work: Copy { to: 1, chunk: 0 }, starts: false })",
     ),
-    (Call::Report(Report::CopyFailed, 4), "Ok(Faults(3))"),
+    (Call::CopyFailed(4), "Ok(Faults(3))"),
     (
         Call::Take,
         "Ok(Given { lease: 5, task: 0, part: 0, work: Cancel, starts: false })",
     ),
-    (Call::Report(Report::Cancel, 5), "Ok(Dead)"),
+    (Call::Cancel(5), "Ok(Dead)"),
     (Call::LaunchNone, "Ok(())"),
 ];
 
-// The calls are answered so in an execution of one task.
-fn plays_one(rt: &impl Abort, alloc: Global, calls: &[(Call, &str)]) -> Result<(), Fail> {
-    let mut exec = moving(rt, alloc, 5, 1, [0, 0, 0, 0], [1, 0, 0, 0])?;
-    play(rt, alloc, &mut exec, calls)
-}
+// Tasks that wait are passed over while the brokers that they name are at their cap.
+const PASSED_OVER: [Row; 6] = [
+    (
+        Call::Take,
+        "Ok(Given { lease: 1, task: 0, part: 0, work: Copy { to: 1, chunk: 0 }, starts: true })",
+    ),
+    (
+        Call::Take,
+        "Ok(Given { lease: 2, task: 3, part: 3, work: Copy { to: 3, chunk: 0 }, starts: true })",
+    ),
+    (Call::Copied(1), "Ok(Left(0))"),
+    (
+        Call::Take,
+        "Ok(Given { lease: 3, task: 0, part: 0, work: Commit, starts: false })",
+    ),
+    (Call::Commit(3), "Ok(())"),
+    (
+        Call::Take,
+        "Ok(Given { lease: 4, task: 1, part: 1, work: Copy { to: 1, chunk: 0 }, starts: true })",
+    ),
+];
+
+// A change that was carried out.
+const WHOLE: [Row; 5] = [
+    (Call::Take, "Err(NoExecution)"),
+    (Call::List(0), "[1]"),
+    (Call::List(1), "[2]"),
+    (Call::List(2), "[1]"),
+    (Call::List(3), "[5]"),
+];
+
+// Executions, by the cap of a broker, whether they are carried out first, where the partitions are and go to, and their calls.
+const EXECUTIONS: [(u32, bool, [u32; 4], [u32; 4], &[Row]); 8] = [
+    (1, false, [0, 0, 0, 4], [1, 2, 3, 5], &FULL),
+    (2, false, [0, 0, 0, 4], [1, 2, 3, 4], &LOWERED),
+    (1, false, [0, 0, 2, 2], [1, 1, 1, 3], &PASSED_OVER),
+    (5, false, [0, 0, 0, 0], [1, 0, 0, 0], &FORCED_STOP),
+    (5, false, [0, 0, 0, 0], [1, 0, 0, 0], &SOFT_STOP),
+    (5, false, [0, 0, 0, 0], [1, 0, 0, 0], &DEATH),
+    (5, false, [0, 0, 0, 0], [1, 0, 0, 0], &FAULTS),
+    (1, true, [0, 0, 1, 4], [1, 2, 1, 5], &WHOLE),
+];
 
 #[test]
-fn answers_each_call_of_a_full_run(rt: HostRuntime) -> Result<(), Fail> {
+fn answers_each_call(rt: HostRuntime) -> Result<(), Fail> {
     let alloc = rt.alloc();
-    let mut exec = moving(&rt, alloc, 1, 1, [0, 0, 0, 4], [1, 2, 3, 5])?;
-    play(&rt, alloc, &mut exec, &FULL)
-}
-
-#[test]
-fn answers_each_call_after_a_stop_a_death_or_a_fault(rt: HostRuntime) -> Result<(), Fail> {
-    let alloc = rt.alloc();
-    plays_one(&rt, alloc, &FORCED_STOP)?;
-    plays_one(&rt, alloc, &SOFT_STOP)?;
-    plays_one(&rt, alloc, &DEATH)?;
-    plays_one(&rt, alloc, &FAULTS)
-}
-
-// Reports done the work that was given.
-fn finish(alloc: Global, exec: &mut Exec, given: Given) -> Result<String, AllocError> {
-    match given.work {
-        Work::Copy { .. } => copied(alloc, exec, given.lease),
-        Work::Commit => commit(alloc, exec, given.lease),
-        Work::Cancel => cancel(alloc, exec, given.lease),
+    for (broker, whole, from, to, rows) in &EXECUTIONS {
+        let mut exec = moving(&rt, alloc, *broker, 1, *whole, *from, *to)?;
+        play(&rt, alloc, &mut exec, rows)?;
     }
+    Ok(())
 }
+
+// Stops and deaths, the first event before which each comes and the first before which it doesn't, its answer, and two
+// partitions' lists at the end.
+const INTRUDERS: [(Call, u32, u32, &str, &str, &str); 16] = [
+    (
+        Call::Stop(true),
+        1,
+        2,
+        "Ok(Stopped { aborted: 2, aborting: 0 })",
+        "[0]",
+        "[0]",
+    ),
+    (
+        Call::Stop(true),
+        2,
+        7,
+        "Ok(Stopped { aborted: 1, aborting: 1 })",
+        "[0]",
+        "[0]",
+    ),
+    (
+        Call::Stop(true),
+        7,
+        8,
+        "Ok(Stopped { aborted: 1, aborting: 0 })",
+        "[2]",
+        "[0]",
+    ),
+    (
+        Call::Stop(true),
+        8,
+        13,
+        "Ok(Stopped { aborted: 0, aborting: 1 })",
+        "[2]",
+        "[0]",
+    ),
+    (Call::Stop(true), 13, 14, "Err(NothingToStop)", "[2]", "[3]"),
+    (
+        Call::Stop(false),
+        1,
+        2,
+        "Ok(Stopped { aborted: 2, aborting: 0 })",
+        "[0]",
+        "[0]",
+    ),
+    (
+        Call::Stop(false),
+        2,
+        8,
+        "Ok(Stopped { aborted: 1, aborting: 0 })",
+        "[2]",
+        "[0]",
+    ),
+    (
+        Call::Stop(false),
+        8,
+        13,
+        "Ok(Stopped { aborted: 0, aborting: 0 })",
+        "[2]",
+        "[3]",
+    ),
+    (
+        Call::Stop(false),
+        13,
+        14,
+        "Err(NothingToStop)",
+        "[2]",
+        "[3]",
+    ),
+    (
+        Call::Kill(2),
+        1,
+        2,
+        "Ok(Killed { dead: 1, aborting: 0 })",
+        "[0]",
+        "[3]",
+    ),
+    (
+        Call::Kill(2),
+        2,
+        7,
+        "Ok(Killed { dead: 0, aborting: 1 })",
+        "[0]",
+        "[3]",
+    ),
+    (
+        Call::Kill(2),
+        7,
+        14,
+        "Ok(Killed { dead: 0, aborting: 0 })",
+        "[2]",
+        "[3]",
+    ),
+    (
+        Call::Kill(3),
+        1,
+        8,
+        "Ok(Killed { dead: 1, aborting: 0 })",
+        "[2]",
+        "[0]",
+    ),
+    (
+        Call::Kill(3),
+        8,
+        13,
+        "Ok(Killed { dead: 0, aborting: 1 })",
+        "[2]",
+        "[0]",
+    ),
+    (
+        Call::Kill(3),
+        13,
+        14,
+        "Ok(Killed { dead: 0, aborting: 0 })",
+        "[2]",
+        "[3]",
+    ),
+    (
+        Call::Kill(0),
+        1,
+        14,
+        "Ok(Killed { dead: 0, aborting: 0 })",
+        "[2]",
+        "[3]",
+    ),
+];
 
 // One event of a worker that holds this work: it is reported done, or the next is taken.
 fn event(
@@ -413,210 +575,52 @@ fn event(
     exec: &mut Exec,
     held: Option<Given>,
 ) -> Result<Option<Given>, Fail> {
-    match held {
-        None => Ok(take(rt, exec).ok()),
-        Some(given) => {
-            finish(alloc, exec, given)?;
-            Ok(None)
-        }
-    }
+    let Some(given) = held else {
+        assert!(rt; exec.leases() < 100);
+        return Ok(exec.take().ok());
+    };
+    let report = match given.work {
+        Work::Copy { .. } => Call::Copied(given.lease),
+        Work::Commit => Call::Commit(given.lease),
+        Work::Cancel => Call::Cancel(given.lease),
+    };
+    work(rt, alloc, exec, &report)?;
+    Ok(None)
 }
 
-// One worker takes work and reports it done, event by event; the intruder comes before the event of this number.
+// One worker takes work and reports it done, event by event; the call comes before the event of this number.
 fn disturbed(
     rt: &impl Abort,
     alloc: Global,
-    exec: &mut Exec,
-    intruder: (Call, &str),
+    call: &Call,
+    want: &str,
     before: u32,
-) -> Result<(), Fail> {
-    let (call, want) = intruder;
+) -> Result<Exec, Fail> {
+    let mut exec = moving(rt, alloc, 1, 2, false, [0, 0, 4, 4], [2, 3, 4, 4])?;
     let mut held = None;
     for number in 1..40 {
         if number == before {
-            says(rt, alloc, exec, call, want)?;
+            let got = answer(rt, alloc, &mut exec, call)?;
+            assert_eq!(rt; got.as_str(), want);
         }
-        held = event(rt, alloc, exec, held)?;
+        held = event(rt, alloc, &mut exec, held)?;
     }
-    Ok(())
-}
-
-// An intruder and its answer, the first and the last event before which it comes, and two partitions' lists at the end.
-type Row = (Call, &'static str, u32, u32, &'static str, &'static str);
-
-const INTRUDERS: [Row; 16] = [
-    (
-        Call::Stop(true),
-        "Ok(Stopped { aborted: 2, aborting: 0 })",
-        1,
-        1,
-        "[0]",
-        "[0]",
-    ),
-    (
-        Call::Stop(true),
-        "Ok(Stopped { aborted: 1, aborting: 1 })",
-        2,
-        6,
-        "[0]",
-        "[0]",
-    ),
-    (
-        Call::Stop(true),
-        "Ok(Stopped { aborted: 1, aborting: 0 })",
-        7,
-        7,
-        "[2]",
-        "[0]",
-    ),
-    (
-        Call::Stop(true),
-        "Ok(Stopped { aborted: 0, aborting: 1 })",
-        8,
-        12,
-        "[2]",
-        "[0]",
-    ),
-    (Call::Stop(true), "Err(NothingToStop)", 13, 13, "[2]", "[3]"),
-    (
-        Call::Stop(false),
-        "Ok(Stopped { aborted: 2, aborting: 0 })",
-        1,
-        1,
-        "[0]",
-        "[0]",
-    ),
-    (
-        Call::Stop(false),
-        "Ok(Stopped { aborted: 1, aborting: 0 })",
-        2,
-        7,
-        "[2]",
-        "[0]",
-    ),
-    (
-        Call::Stop(false),
-        "Ok(Stopped { aborted: 0, aborting: 0 })",
-        8,
-        12,
-        "[2]",
-        "[3]",
-    ),
-    (
-        Call::Stop(false),
-        "Err(NothingToStop)",
-        13,
-        13,
-        "[2]",
-        "[3]",
-    ),
-    (
-        Call::Kill(2),
-        "Ok(Killed { dead: 1, aborting: 0 })",
-        1,
-        1,
-        "[0]",
-        "[3]",
-    ),
-    (
-        Call::Kill(2),
-        "Ok(Killed { dead: 0, aborting: 1 })",
-        2,
-        6,
-        "[0]",
-        "[3]",
-    ),
-    (
-        Call::Kill(2),
-        "Ok(Killed { dead: 0, aborting: 0 })",
-        7,
-        13,
-        "[2]",
-        "[3]",
-    ),
-    (
-        Call::Kill(3),
-        "Ok(Killed { dead: 1, aborting: 0 })",
-        1,
-        7,
-        "[2]",
-        "[0]",
-    ),
-    (
-        Call::Kill(3),
-        "Ok(Killed { dead: 0, aborting: 1 })",
-        8,
-        12,
-        "[2]",
-        "[0]",
-    ),
-    (
-        Call::Kill(3),
-        "Ok(Killed { dead: 0, aborting: 0 })",
-        13,
-        13,
-        "[2]",
-        "[3]",
-    ),
-    (
-        Call::Kill(0),
-        "Ok(Killed { dead: 0, aborting: 0 })",
-        1,
-        13,
-        "[2]",
-        "[3]",
-    ),
-];
-
-// The run with this intruder before this event ends as it is to.
-fn ends(rt: &impl Abort, alloc: Global, row: Row, event: u32) -> Result<(), Fail> {
-    let (call, want, first, last, one, other) = row;
-    if event < first || last < event {
-        return Ok(());
-    }
-    let mut exec = moving(rt, alloc, 1, 2, [0, 0, 4, 4], [2, 3, 4, 4])?;
-    disturbed(rt, alloc, &mut exec, (call, want), event)?;
-    let calls = [
-        (Call::Take, "Err(NoExecution)"),
-        (Call::List(0), one),
-        (Call::List(1), other),
-    ];
-    play(rt, alloc, &mut exec, &calls)
-}
-
-fn ends_before_each(rt: &impl Abort, alloc: Global, row: Row) -> Result<(), Fail> {
-    for event in 1..14 {
-        ends(rt, alloc, row, event)?;
-    }
-    Ok(())
+    Ok(exec)
 }
 
 #[test]
 fn ends_well_with_a_stop_or_a_death_before_each_event(rt: HostRuntime) -> Result<(), Fail> {
-    for row in &INTRUDERS {
-        ends_before_each(&rt, rt.alloc(), *row)?;
+    let alloc = rt.alloc();
+    for (call, first, end, want, one, other) in &INTRUDERS {
+        for before in *first..*end {
+            let mut exec = disturbed(&rt, alloc, call, want, before)?;
+            let rows = [
+                (Call::Take, "Err(NoExecution)"),
+                (Call::List(0), *one),
+                (Call::List(1), *other),
+            ];
+            play(&rt, alloc, &mut exec, &rows)?;
+        }
     }
     Ok(())
-}
-
-#[test]
-fn carries_out_a_change(rt: HostRuntime) -> Result<(), Fail> {
-    let alloc = rt.alloc();
-    let case = case(alloc, 2)?;
-    let before = assignment(alloc, &case, [0, 0, 1, 4])?;
-    let after = assignment(alloc, &case, [1, 2, 1, 5])?;
-    assert!(rt; avoids_lost(&case, &after));
-    let caps = Caps {
-        broker: 1,
-        cluster: 1,
-        leader: 1,
-    };
-    let mut exec = carry_out(alloc, &case, caps, &before, &after)?;
-    let calls = [
-        (Call::List(0), "[1]"),
-        (Call::List(1), "[2]"),
-        (Call::List(2), "[1]"),
-        (Call::List(3), "[5]"),
-    ];
-    play(&rt, alloc, &mut exec, &calls)
 }

@@ -4,7 +4,7 @@ use Rattle.std.specs.List.{list_any, list_all, position}
 use Rattle.plan_terms.specs.Belongs.{distinct}
 use Rattle.plan_terms.specs.Cluster.{has}
 use Rattle.plan_terms.specs.declared.lists.Proposal.{Proposal}
-use Rattle.exec_terms.specs.declared.brokers.Caps.{Caps}
+use Rattle.plan_terms.specs.declared.settings.Caps.{Caps}
 use Rattle.cap_ledger.specs.Ledger.{Ledger, differ, fits_in}
 use Rattle.task_planner.specs.declared.slot.Slot.{Slot}
 

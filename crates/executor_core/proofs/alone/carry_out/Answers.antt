@@ -1,6 +1,6 @@
 use Rattle.std.proofs.Common.{◌≡◌, length, sym, ◌∙◌}
 use Rattle.plan_terms.specs.Change.{proposals}
-use Rattle.executor_core.specs.Alone.{opening}
+use Rattle.exec_terms.specs.Runs.{opening}
 use Rattle.executor_core.proofs.Drained.{own_rounds, later_rounds, all_completed, lists_are}
 use Rattle.executor_core.proofs.alone.carry_out.Goals as goal
 

@@ -1,13 +1,11 @@
-use Rattle.std.proofs.Common.{◌≡◌, true}
-use Rattle.plan_terms.specs.Belongs.{distinct}
-use Rattle.cap_ledger.proofs.Find.{brokers_of, brokers_of-empty}
-use Rattle.cap_ledger.proofs.Changes.{IsEmpty-new}
+use Rattle.std.proofs.lemmas.List.Sorted.{IsNonDecreasingBy-from_sort}
+use Rattle.cap_ledger.proofs.Sorting.{empty_in_order, IsEmpty-sorted}
 use Rattle.cap_ledger.proofs.counts.Counts.new.Goals as goal
 
 pub invariant_of-result : goal.invariant_of-result
-invariant_of-result c =
-    let once : distinct (brokers_of c.in_ok-empty_entries.field-0.items) ≡ true = rw (c.in_ok-empty_entries.ensures, brokers_of-empty c.args.brokers.now) c.requires in
-    once
+invariant_of-result c = empty_in_order c.args.brokers.now c.sort_unstable.new.self.items c.in_ok-entries.entries.items c.requires
+    (rw c.in_ok-ids.ensures.items at c.sort_unstable.ensures.permutation) (IsNonDecreasingBy-from_sort (λ x. x) _ c.sort_unstable.ensures.sorted) (rw c.as_slice.ensures.value at c.in_ok-entries.ensures)
 
 pub returns : goal.returns
-returns c = IsEmpty-new c.args.brokers.now c.in_ok-empty_entries.field-0.items (c.in_ok-empty_entries.ensures)
+returns c = IsEmpty-sorted c.args.brokers.now c.sort_unstable.new.self.items c.in_ok-entries.entries.items
+    (rw c.in_ok-ids.ensures.items at c.sort_unstable.ensures.permutation) (rw c.as_slice.ensures.value at c.in_ok-entries.ensures)

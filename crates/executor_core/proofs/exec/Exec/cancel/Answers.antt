@@ -10,7 +10,7 @@ pub index_mut-task-requires : goal.index_mut-task-requires
 index_mut-task-requires c = omega (arith, (worth _ c.args.lease ForCancel c.in-Ok.i (rw (← c.self.view_is) at c.in-Ok.ensures)).known)
 
 pub invariant_of-self : goal.invariant_of-self
-invariant_of-self c = left_kept _ _ _ _ _ _ c.self.invariant c.args.lease ForCancel c.in-Ok.i c.index_mut-task.result.now c.cancel.new.self c.as_slice.result.now c.as_slice-in-Ok.result.now c.leave.new.self (rw (← c.self.view_is) at c.in-Ok.ensures) c.index_mut-task.ensures.value
+invariant_of-self c = left_kept _ _ _ _ _ _ _ c.self.invariant c.args.lease ForCancel c.in-Ok.i c.index_mut-task.result.now c.cancel.new.self c.as_slice.result.now c.as_slice-in-Ok.result.now c.leave.new.self (rw (← c.self.view_is) at c.in-Ok.ensures) c.index_mut-task.ensures.value
     (end_cancelled c.index_mut-task.result.now c.cancel.new.self c.cancel.ensures) c.as_slice.ensures c.as_slice-in-Ok.ensures c.leave.ensures
     (IsValid-same _ _ (ended_is cancelled _ c.args.lease ForCancel c.in-Ok.i c.index_mut-task.result.now c.cancel.new.self (rw (← c.self.view_is) at c.in-Ok.ensures) c.index_mut-task.ensures.value c.cancel.ensures) (IsValid-cancel _ c.args.lease c.self.invariant.valid))
 
@@ -19,10 +19,13 @@ returns-in-Ok-clause-reply c = rw (← c.self.view_is) (reply_is phase_cancelled
     (phase_is c.index_mut-task.result.now c.cancel.new.self c.cancel.ensures))
 
 pub leave-requires-clause-before : goal.leave-requires-clause-before
-leave-requires-clause-before c = rw c.as_slice.ensures (leaving _ _ _ _ _ _ c.self.invariant c.args.lease ForCancel c.in-Ok.i c.index_mut-task.result.now (rw (← c.self.view_is) at c.in-Ok.ensures) c.index_mut-task.ensures.value).before
+leave-requires-clause-before c = rw c.as_slice.ensures (leaving _ _ _ _ _ _ _ c.self.invariant c.args.lease ForCancel c.in-Ok.i c.index_mut-task.result.now (rw (← c.self.view_is) at c.in-Ok.ensures) c.index_mut-task.ensures.value).before
 
 pub leave-requires-clause-after : goal.leave-requires-clause-after
-leave-requires-clause-after c = rw c.as_slice-in-Ok.ensures (leaving _ _ _ _ _ _ c.self.invariant c.args.lease ForCancel c.in-Ok.i c.index_mut-task.result.now (rw (← c.self.view_is) at c.in-Ok.ensures) c.index_mut-task.ensures.value).after
+leave-requires-clause-after c = rw c.as_slice-in-Ok.ensures (leaving _ _ _ _ _ _ _ c.self.invariant c.args.lease ForCancel c.in-Ok.i c.index_mut-task.result.now (rw (← c.self.view_is) at c.in-Ok.ensures) c.index_mut-task.ensures.value).after
 
 pub leave-requires-clause-counted : goal.leave-requires-clause-counted
-leave-requires-clause-counted c = rw (c.as_slice.ensures, c.as_slice-in-Ok.ensures) (leaving _ _ _ _ _ _ c.self.invariant c.args.lease ForCancel c.in-Ok.i c.index_mut-task.result.now (rw (← c.self.view_is) at c.in-Ok.ensures) c.index_mut-task.ensures.value).counted
+leave-requires-clause-counted c = rw (c.as_slice.ensures, c.as_slice-in-Ok.ensures) (leaving _ _ _ _ _ _ _ c.self.invariant c.args.lease ForCancel c.in-Ok.i c.index_mut-task.result.now (rw (← c.self.view_is) at c.in-Ok.ensures) c.index_mut-task.ensures.value).counted
+
+pub overflow_sub-self : goal.overflow_sub-self
+overflow_sub-self c = (leaving _ _ _ _ _ _ _ c.self.invariant c.args.lease ForCancel c.in-Ok.i c.index_mut-task.result.now (rw (← c.self.view_is) at c.in-Ok.ensures) c.index_mut-task.ensures.value).some

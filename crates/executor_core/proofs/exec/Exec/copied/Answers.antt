@@ -25,7 +25,7 @@ unfolding copies
 copies_left-requires-clause-done c = rw c.finish_copy.ensures (copy_ends _ c.args.lease c.in-Ok.i c.index_mut-task.result.now c.self.invariant.valid (rw (← c.self.view_is) at c.in-Ok.ensures) c.index_mut-task.ensures.value).left
 
 pub invariant_of-self : goal.invariant_of-self
-invariant_of-self c = calm_kept _ _ _ _ _ _ c.self.invariant c.in-Ok.i _ c.index_mut-task.result.now c.finish_copy.new.self (worth _ c.args.lease ForCopy c.in-Ok.i (rw (← c.self.view_is) at c.in-Ok.ensures)).known c.index_mut-task.ensures.value (calm_copied c.index_mut-task.result.now c.finish_copy.new.self c.finish_copy.ensures)
+invariant_of-self c = calm_kept _ _ _ _ _ _ _ c.self.invariant c.in-Ok.i _ c.index_mut-task.result.now c.finish_copy.new.self (worth _ c.args.lease ForCopy c.in-Ok.i (rw (← c.self.view_is) at c.in-Ok.ensures)).known c.index_mut-task.ensures.value (calm_copied c.index_mut-task.result.now c.finish_copy.new.self c.finish_copy.ensures)
     (IsValid-same _ _ (ended_is one_copied _ c.args.lease ForCopy c.in-Ok.i c.index_mut-task.result.now c.finish_copy.new.self (rw (← c.self.view_is) at c.in-Ok.ensures) c.index_mut-task.ensures.value c.finish_copy.ensures) (IsValid-copied _ c.args.lease c.self.invariant.valid))
 
 pub returns-in-Ok-clause-reply : goal.returns-in-Ok-clause-reply

@@ -14,8 +14,8 @@ pub fail_copy-requires : goal.fail_copy-requires
 fail_copy-requires c = (copy_ends _ c.args.lease c.in-Ok.i c.index_mut-task.result.now c.self.invariant.valid (rw (← c.self.view_is) at c.in-Ok.ensures) c.index_mut-task.ensures.value).faults
 
 pub invariant_of-self : goal.invariant_of-self
-invariant_of-self c = calm_kept _ _ _ _ _ _ c.self.invariant c.in-Ok.i _ c.index_mut-task.result.now c.fail_copy.new.self (worth _ c.args.lease ForCopy c.in-Ok.i (rw (← c.self.view_is) at c.in-Ok.ensures)).known c.index_mut-task.ensures.value
-    (calm_failed c.index_mut-task.result.now c.fail_copy.new.self (flies _ _ _ _ _ _ c.self.invariant c.args.lease ForCopy c.in-Ok.i c.index_mut-task.result.now (rw (← c.self.view_is) at c.in-Ok.ensures) c.index_mut-task.ensures.value) c.fail_copy.ensures)
+invariant_of-self c = calm_kept _ _ _ _ _ _ _ c.self.invariant c.in-Ok.i _ c.index_mut-task.result.now c.fail_copy.new.self (worth _ c.args.lease ForCopy c.in-Ok.i (rw (← c.self.view_is) at c.in-Ok.ensures)).known c.index_mut-task.ensures.value
+    (calm_failed c.index_mut-task.result.now c.fail_copy.new.self (flies _ _ _ _ _ _ _ c.self.invariant c.args.lease ForCopy c.in-Ok.i c.index_mut-task.result.now (rw (← c.self.view_is) at c.in-Ok.ensures) c.index_mut-task.ensures.value) c.fail_copy.ensures)
     (IsValid-same _ _ (ended_is one_failed _ c.args.lease ForCopy c.in-Ok.i c.index_mut-task.result.now c.fail_copy.new.self (rw (← c.self.view_is) at c.in-Ok.ensures) c.index_mut-task.ensures.value c.fail_copy.ensures) (IsValid-copy_failed _ c.args.lease c.self.invariant.valid))
 
 pub returns-in-Ok-clause-reply : goal.returns-in-Ok-clause-reply

@@ -7,4 +7,4 @@ pub index_mut-requires : goal.index_mut-requires
 index_mut-requires c = omega (arith, given_known _ c.args.given (sym (rw (← c.self.view_is) at c.requires.next)))
 
 pub invariant_of-self : goal.invariant_of-self
-invariant_of-self c = gone_on _ _ _ _ _ _ c.self.invariant c.args.given c.index_mut.result.now (rw (← c.self.view_is) at c.requires.next) c.index_mut.ensures.value c.lend.new.self c.requires.goes_on c.lend.ensures
+invariant_of-self c = gone_on _ _ _ _ _ _ _ c.self.invariant c.args.given c.index_mut.result.now (rw (← c.self.view_is) at c.requires.next) c.index_mut.ensures.value c.lend.new.self c.requires.goes_on c.lend.ensures

@@ -5,11 +5,11 @@ use Rattle.executor_core.proofs.exec.Exec.launch.Goals as goal
 
 pub new-requires-clause-lists : goal.new-requires-clause-lists
 new-requires-clause-lists c = rw c.as_slice-4.ensures.value
-    (lists_known _ _ _ _ _ _ c.self.invariant (sym (rw c.as_slice.ensures.value at c.in_default.ensures)) c.args.proposals.now (rw (← c.self.view_is) at c.requires))
+    (lists_known _ _ _ _ _ _ _ c.self.invariant (sym (rw c.as_slice.ensures.value at c.in_default.ensures)) c.args.proposals.now (rw (← c.self.view_is) at c.requires))
 
 pub invariant_of-self : goal.invariant_of-self
 invariant_of-self c =
-    let kept = kept_launched _ _ _ _ _ _ c.self.invariant (sym (rw c.as_slice.ensures.value at c.in_default.ensures))
+    let kept = kept_launched _ _ _ _ _ _ _ c.self.invariant (sym (rw c.as_slice.ensures.value at c.in_default.ensures))
     c.in_ok-base.base.items c.in_ok-unions.unions.items c.in_ok-tasks.tasks.items c.args.proposals.now c.in_ok-copies.copies.items c.in_ok-queue.queue
     (rw (← c.self.view_is) at c.requires)
     (rw (← c.self.view_is) at c.in_ok-base.ensures)
@@ -26,5 +26,6 @@ invariant_of-self c =
           c.self.invariant.valid;
       fixed = kept.0;
       counts_are = kept.1;
+      left_is = kept.3;
       queue_is = kept.2;
     }
