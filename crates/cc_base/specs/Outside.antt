@@ -1,5 +1,5 @@
 -- What the calls of a source, a sink and the files tell.
-use Rattle.std.specs.Prelude.{◌≡◌, ◌≤◌, ℕ, ◌+◌, ◌-◌, ◌^◌, min, List, [], ◌++◌, length, take, drop, Option, option_map, Result, OnErr}
+use Rattle.std.specs.Prelude.{◌≡◌, ◌≤◌, ◌⊎◌, ℕ, ◌+◌, ◌-◌, ◌^◌, min, List, [], ◌∷◌, ◌++◌, length, take, drop, Option, option_map, Result, OnOk, OnErr}
 
 -- what a link tells of its other side: the count of faults, and the bytes
 abbrev pub Beside : Type 0
@@ -31,3 +31,12 @@ pub record IsNext (n : ℕ) (buffer told : List ℕ) : Type 0 where
 -- what was told had no more than a front of the bytes put at its end
 abbrev pub IsPrefixOut : Option (List ℕ) → Option (List ℕ) → List ℕ → Type 0
 IsPrefixOut old new bytes = (n : ℕ) × (n ≤ length bytes) × (new ≡ appended old (take n bytes))
+
+-- what is told of the names, with this name at their end
+abbrev pub with_name : Option (List (List ℕ)) → List ℕ → Option (List (List ℕ))
+with_name told name = option_map (λ names. names ++ name ∷ []) told
+
+-- a file that is loaded adds its name to the names; one that is not may have added it or not
+pub record IsLogged {T E : Type 0} (old new : Option (List (List ℕ))) (name : List ℕ) (result : Result T E) : Type 0 where
+  pub loaded : OnOk result (new ≡ with_name old name)
+  pub failed : OnErr result ((new ≡ old) ⊎ (new ≡ with_name old name))

@@ -1,7 +1,7 @@
 // What fails at chosen calls.
 ghost use Rattle.std.specs.Prelude.{◌≡◌, ◌≤◌, ◌<◌, ◌+◌, ◌↔◌, length, take, IfOk, IfSome, IsErr, IsErrOf, IsTrue, OnErr};
 ghost use Rattle.cc_base.specs.Failing.{CountsCall, IsListed};
-ghost use Rattle.cc_base.specs.Outside.{HasCause, HasRisen, IsNext, after, appended};
+ghost use Rattle.cc_base.specs.Outside.{HasCause, HasRisen, IsLogged, IsNext, after, appended};
 
 use crate::{Failed, FileFault, Files, Sink, Source};
 use std::alloc::Global;
@@ -130,6 +130,8 @@ impl<T: Files> Files for Failing<T> {
 
     ghost contents = { λ f. T.contents f.inner };
 
+    ghost log = { λ f. T.log f.inner };
+
     fn load(&mut self, alloc: Global, name: &str) -> Result<Vec<u8>, FileFault>
         ensures fails { IsListed self.old.calls → IsErrOf result FileFault.Failed }
         ensures kept { IsListed self.old.calls → self.new.inner ≡ self.old.inner }
@@ -140,6 +142,7 @@ impl<T: Files> Files for Failing<T> {
         ensures bytes { IfOk result (λ v. IfSome (T.contents self.old.inner name.now) (λ told. v.items ≡ told)) }
         ensures long { IfOk result (λ v. length v.items ≤ 67108864) }
         ensures contents { T.contents self.new.inner ≡ T.contents self.old.inner }
+        ensures logged { IsLogged (T.log self.old.inner) (T.log self.new.inner) name.now result }
     {
         if self.calls.next_fails() {
             return Err(FileFault::Failed);

@@ -7,7 +7,7 @@ use std::alloc::Global;
 use std::io::{self, ErrorKind, Read, Stderr, Stdout, Write};
 use std::{fs, rt};
 
-/// The files of the system, by their paths. Nothing is told of what they hold.
+/// The files of the system, by their paths. Nothing is told of what they hold, nor of which were loaded.
 #[derive(Drop)]
 pub struct HostFiles<R> {
     rt: R,
@@ -35,6 +35,8 @@ impl<R: rt::Files> Files for HostFiles<R> {
     ghost faults = { λ f. f.faults };
 
     ghost contents = { λ _ _. None };
+
+    ghost log = { λ _. None };
 
     /// At most one byte more than [`MAX_FILE_LEN`] is read.
     fn load(&mut self, alloc: Global, name: &str) -> Result<Vec<u8>, FileFault> {

@@ -1,10 +1,10 @@
 // Sources, sinks and files in memory. They tell all their bytes, and never fail of themselves.
-ghost use Rattle.std.specs.Prelude.{◌≡◌, ◌<◌, ◌≤◌, ◌↔◌, [], None, Some, option_map, drop, length, min, IfOk, IfSome, IsErrOf, IsOk};
-ghost use Rattle.cc_base.specs.Outside.{HasRisen, IsNext, after};
+ghost use Rattle.std.specs.Prelude.{◌≡◌, ◌<◌, ◌≤◌, ◌↔◌, [], ◌∷◌, ◌++◌, None, Some, map, option_map, drop, length, min, string_bytes, IfOk, IfSome, IsErrOf, IsOk, OnErr, OnOk};
+ghost use Rattle.cc_base.specs.Outside.{HasRisen, IsLogged, IsNext, after};
 ghost use Rattle.cc_base.specs.Memory.{contents_of, IsRefused};
 
 use crate::{Failed, FileFault, Files, MAX_FILE_LEN, Sink, Source};
-use std::alloc::Global;
+use std::alloc::{AllocError, Global};
 
 /// Bytes to read. No call fails.
 #[derive(Drop)]
@@ -101,19 +101,45 @@ pub struct MemoryFile {
 
 /// Files in memory. A call fails for an absent name, for a file that is too long, and for want of memory. The first two
 /// count as faults.
+///
+/// The name of each call is kept, whatever its answer, unless there is no room for it.
 #[derive(Drop)]
 pub struct MemoryFiles {
     files: Vec<MemoryFile>,
+    names: Vec<String>,
     faults: u64,
 }
 
 impl MemoryFiles {
     /// These files. Of two with one name, the first is loaded.
-    pub fn new(files: Vec<MemoryFile>) -> Self
+    pub fn new(alloc: Global, files: Vec<MemoryFile>) -> Self
         ensures contents { ⟦<Self as Files>⟧.contents result ≡ contents_of files.items }
+        ensures log { ⟦<Self as Files>⟧.log result ≡ Some [] }
         ensures faults { ⟦<Self as Files>⟧.faults result ≡ 0 }
     {
-        MemoryFiles { files, faults: 0 }
+        MemoryFiles {
+            files,
+            names: Vec::new(alloc),
+            faults: 0,
+        }
+    }
+
+    /// The names that were asked for, in the order of the calls.
+    pub fn names(&self) -> &[String]
+        ensures { ⟦<Self as Files>⟧.log self.now ≡ Some (map string_bytes result.now) }
+    {
+        &self.names
+    }
+
+    // Keeps a name, unless there is no room for it.
+    fn note(&mut self, alloc: Global, name: &str) -> Result<(), AllocError>
+        ensures noted { OnOk result (map string_bytes self.new.names.items ≡ map string_bytes self.old.names.items ++ name.now ∷ []) }
+        ensures unnoted { OnErr result (self.new.names.items ≡ self.old.names.items) }
+        ensures files { self.new.files ≡ self.old.files }
+        ensures faults { self.new.faults ≡ self.old.faults }
+    {
+        self.names.push(String::from_str(alloc, name)?)?;
+        Ok(())
     }
 }
 
@@ -130,6 +156,8 @@ impl Files for MemoryFiles {
 
     ghost contents = { λ m. contents_of m.files.items };
 
+    ghost log = { λ m. Some (map string_bytes m.names.items) };
+
     fn load(&mut self, alloc: Global, name: &str) -> Result<Vec<u8>, FileFault>
         ensures refused { IsErrOf result FileFault.Failed ↔ IsRefused (⟦<Self as Files>⟧.contents self.old name.now) }
         ensures later { self.old.faults ≤ self.new.faults }
@@ -137,9 +165,14 @@ impl Files for MemoryFiles {
         ensures bytes { IfOk result (λ v. IfSome (⟦<Self as Files>⟧.contents self.old name.now) (λ told. v.items ≡ told)) }
         ensures long { IfOk result (λ v. length v.items ≤ 67108864) }
         ensures contents { ⟦<Self as Files>⟧.contents self.new ≡ ⟦<Self as Files>⟧.contents self.old }
+        ensures logged { IsLogged (⟦<Self as Files>⟧.log self.old) (⟦<Self as Files>⟧.log self.new) name.now result }
     {
+        let noted = self.note(alloc, name);
         match bytes_of(&self.files, name) {
-            Some(bytes) if bytes.len() <= MAX_FILE_LEN => Ok(bytes.to_vec(alloc)?),
+            Some(bytes) if bytes.len() <= MAX_FILE_LEN => {
+                noted?;
+                Ok(bytes.to_vec(alloc)?)
+            }
             _ => {
                 self.faults = self.faults.saturating_add(1);
                 Err(FileFault::Failed)

@@ -1,6 +1,6 @@
 // The traits of the outside, and reading and writing over them.
 ghost use Rattle.std.specs.Prelude.{◌≡◌, ◌<◌, ◌≤◌, ℕ, List, length, take, Option, OnOk, OnErr, IfOk, IfSome, IsErrOf};
-ghost use Rattle.cc_base.specs.Outside.{Beside, HasCause, HasRisen, appended, after, IsNext, IsPrefixOut};
+ghost use Rattle.cc_base.specs.Outside.{Beside, HasCause, HasRisen, IsLogged, appended, after, IsNext, IsPrefixOut};
 
 use plan_terms::Memory;
 use std::alloc::{AllocError, Global};
@@ -114,6 +114,10 @@ pub trait Files {
     /// The contents of the file of each name, where they are told.
     ghost contents: { Self → List ℕ → Option (List ℕ) };
 
+    /// The names of the files that were loaded, in the order of the calls, where they are told. A call that failed may
+    /// have left its name there too.
+    ghost log: { Self → Option (List (List ℕ)) };
+
     /// All the bytes of a file.
     ///
     /// # Errors
@@ -125,7 +129,8 @@ pub trait Files {
         ensures cause { IsErrOf result FileFault.Failed → HasRisen (faults self.old) (faults self.new) }
         ensures bytes { IfOk result (λ v. IfSome (contents self.old name.now) (λ told. v.items ≡ told)) }
         ensures long { IfOk result (λ v. length v.items ≤ 67108864) }
-        ensures contents { contents self.new ≡ contents self.old };
+        ensures contents { contents self.new ≡ contents self.old }
+        ensures logged { IsLogged (log self.old) (log self.new) name.now result };
 }
 
 /// Reads once: the next bytes stand at the front of the buffer, as many as answered. `Ok(0)` is the end of the input.

@@ -1,11 +1,11 @@
 -- What a command's answer says once it is written, and what an end with a status says.
-use Rattle.std.proofs.Common.{◌≡◌, ◌⊎◌, inl, inr, ℕ, List, [], ◌∷◌, ◌++◌, refl}
-use Rattle.std.specs.Prelude.{Option, Some, None, IfSome}
-use Rattle.cc_base.specs.Outside.{HasRisen, IsPrefixOut, appended}
+use Rattle.std.proofs.Common.{◌≡◌, ◌⊎◌, ◌∙◌, ap, inl, inr, ℕ, List, [], ◌∷◌, ◌++◌, refl}
+use Rattle.std.specs.Prelude.{Option, Some, None, IfSome, Ok}
+use Rattle.cc_base.specs.Outside.{HasRisen, IsPrefixOut, appended, with_name}
 use Rattle.goal_set.specs.declared.kinds.GoalKind.{GoalKind}
 use Rattle.cc_program.specs.Input.{ClusterLists}
-use Rattle.cc_program.specs.Quiet.{IsAnswer, Means}
-use Rattle.cc_program.specs.Runs.{Edge, IsApplyMade, IsCheckMade, IsDoneText, IsFailedText, IsMade, IsPlanMade, IsRefusedText, IsText, IsTold, Runs, Writes, goal_line, line_of, status_of}
+use Rattle.cc_program.specs.Quiet.{IsAnswer, LoadsAll, Means, with_files}
+use Rattle.cc_program.specs.Runs.{AnswerLogs, Edge, IsApplyMade, IsCheckMade, IsDoneText, IsFailedText, IsMade, IsOut, IsPlanMade, IsRefusedText, IsText, IsTold, Logs, Runs, Writes, goal_line, line_of, status_of}
 use Rattle.cc_program.specs.Words.{Asked, plan, apply, check, command, file_of}
 use Rattle.cc_program.specs.declared.answers.Answer.{Answer}
 use Rattle.cc_program.specs.declared.answers.Answer.TheVariants as answer
@@ -59,6 +59,30 @@ module _ (words : List (List ℕ)) (e : Edge) (asked : Asked) (means : command w
 
   pub written : (a : Answer) (end : End) → IsMade e.told asked file a → Writes e.written_before e.written_now e.out_before e.out_now a end → Runs words e end
   written a end h w = written_one a end (tells e.told asked file a h) w
+
+-- the files that were loaded once a command has its answer
+all_loaded : (asked : Asked) (old mid new : Option (List (List ℕ))) (a : Answer) → mid ≡ with_name old (file_of asked) → AnswerLogs mid new asked (Ok a) → new ≡ with_files old asked
+all_loaded (plan file) old mid new a m h = h ∙ m
+all_loaded (apply file) old mid new a m h = h ∙ m
+all_loaded (check file trace) old mid new a m h = h ∙ ap (λ log. with_name log trace) m
+
+module _ (words : List (List ℕ)) (old new : Option (List (List ℕ))) (all : LoadsAll words old new) where
+  out_logs : (wrote written : Option (List ℕ)) (before now : ℕ) (text : List ℕ) (done end : End) → Logs words old new done → IsOut wrote written before now text done end → Logs words old new end
+  out_logs wrote written before now text done end d (inl w) = rw w.0 d
+  out_logs wrote written before now text done end d (inr w) = rw w.0 all
+
+  answer_logs : (wrote written : Option (List ℕ)) (before now : ℕ) (a : Answer) (end : End) → Writes wrote written before now a end → Logs words old new end
+  answer_logs wrote written before now (answer.Planned text) end w = out_logs wrote written before now text.items Done end all w
+  answer_logs wrote written before now (answer.Applied exec text) end w = out_logs wrote written before now text.items Done end all w
+  answer_logs wrote written before now (answer.Failed line text) end w = out_logs wrote written before now text.items (GoalFailed line) end all w
+  answer_logs wrote written before now (answer.Good text) end w = out_logs wrote written before now text.items Done end all w
+  answer_logs wrote written before now (answer.Faulty text) end w = out_logs wrote written before now text.items TraceRefused end all w
+
+-- an answer that is written, or a front of it, comes once all files of the command were loaded
+pub logged : (words : List (List ℕ)) (asked : Asked) → command words ≡ Some asked → (old mid new : Option (List (List ℕ))) (a : Answer) → mid ≡ with_name old (file_of asked) → AnswerLogs mid new asked (Ok a)
+    → (wrote written : Option (List ℕ)) (before now : ℕ) (end : End) → Writes wrote written before now a end → Logs words old new end
+logged words asked means old mid new a m h wrote written before now end w =
+    answer_logs words old new (record { asked = asked; means = means; log = all_loaded asked old mid new a m h }) wrote written before now a end w
 
 -- status 4 is that of a goal that fails
 pub failure_of : (words : List (List ℕ)) (e : Edge) (end : End) (old new : Option (List ℕ)) (before now : ℕ)

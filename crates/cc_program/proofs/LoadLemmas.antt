@@ -7,8 +7,9 @@ use Rattle.plan_terms.specs.Cluster.{Cluster, Lists}
 use Rattle.plan_terms.specs.declared.cluster.Loads.{Loads}
 use Rattle.plan_terms.specs.declared.cluster.Part.{Part}
 use Rattle.load_model.specs.Changed.{with_loads}
-use Rattle.metric_windows.specs.Samples.{Rules, Sample, load_of}
-use Rattle.cluster_json.specs.declared.samples.FileSample.{FileSample}
+use Rattle.metric_windows.specs.Samples.{load_of}
+use Rattle.plan_terms.specs.declared.settings.WindowRules.{WindowRules}
+use Rattle.plan_terms.specs.declared.settings.Sample.{Sample}
 use Rattle.cc_program.specs.Input.{and_accepted, loaded_at, loaded_from, loaded_one}
 
 -- the partition behind so many others gets the loads
@@ -47,7 +48,7 @@ module _ (loads : ℕ → Option Loads) where
       here ∙ sym (append_assoc front (loaded_one (loads i) p ∷ []) rest) ∙ ap (λ (l : List Part). l ++ rest) (sym grown)
 
 -- where a sequence of samples is one longer
-pub accepted-next : (rules : Rules) (samples : List FileSample) (i : ℕ) (d : FileSample) → i < length samples
+pub accepted-next : (rules : WindowRules) (samples : List Sample) (i : ℕ) (d : Sample) → i < length samples
     → fold (and_accepted rules) [] (take (i + 1) samples) ≡ and_accepted rules (fold (and_accepted rules) [] (take i samples)) (get_or samples i d)
 accepted-next rules samples i d h = ap (fold (and_accepted rules) []) (take_more samples i d h) ∙ fold-append (and_accepted rules) [] (take i samples) (get_or samples i d ∷ [])
 
@@ -66,12 +67,12 @@ length-front loads ps i h =
     ∙ omega (arith, length-drop i ps)
 
 -- one partition more has its loads
-pub loaded-step : (c k new : Cluster) (rules own : Rules) (samples : List Sample) (i : ℕ) → own ≡ rules
+pub loaded-step : (c k new : Cluster) (rules own : WindowRules) (samples : List Sample) (i : ℕ) → own ≡ rules
     → k ≡ record c { parts = loaded_from (load_of rules samples) 0 (take i c.parts) ++ drop i c.parts }
     → new ≡ record k { parts = loaded_at k.parts i (load_of own samples i) } → i < length c.parts
     → new ≡ record c { parts = loaded_from (load_of rules samples) 0 (take (i + 1) c.parts) ++ drop (i + 1) c.parts }
 loaded-step c k new rules own samples i same before step h =
-    step ∙ ap (λ (r : Rules). record k { parts = loaded_at k.parts i (load_of r samples i) }) same
+    step ∙ ap (λ (r : WindowRules). record k { parts = loaded_at k.parts i (load_of r samples i) }) same
     ∙ ap (λ (x : Cluster). record x { parts = loaded_at x.parts i (load_of rules samples i) }) before
     ∙ ap (λ (ps : List Part). record c { parts = ps }) (loaded_next (load_of rules samples) c.parts i no_part h)
 

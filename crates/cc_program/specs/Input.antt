@@ -4,32 +4,25 @@ use Rattle.plan_terms.specs.Cluster.{Cluster, Lists}
 use Rattle.plan_terms.specs.declared.cluster.Loads.{Loads}
 use Rattle.plan_terms.specs.declared.cluster.Part.{Part}
 use Rattle.load_model.specs.Changed.{with_loads}
-use Rattle.metric_windows.specs.Samples.{Rules, Sample, refusal, load_of}
+use Rattle.metric_windows.specs.Samples.{refusal, load_of}
 use Rattle.cluster_json.specs.Faults.{Read, ◌>>=◌}
 use Rattle.cluster_json.specs.File.{Meaning, meaning_of}
-use Rattle.cluster_json.specs.declared.config.Caps3.{Caps3}
-use Rattle.cluster_json.specs.declared.config.WindowRules.{WindowRules}
-use Rattle.cluster_json.specs.declared.samples.FileSample.{FileSample}
+use Rattle.plan_terms.specs.declared.settings.Caps.{Caps}
+use Rattle.plan_terms.specs.declared.settings.WindowRules.{WindowRules}
+use Rattle.plan_terms.specs.declared.settings.Sample.{Sample}
 
 -- a cluster, the replica list of each of its partitions, and how many movements there may be at a time
 pub record ClusterLists : Type 0 where
   pub cluster : Cluster
   pub lists : Lists
-  pub caps : Caps3
-
--- the rules of the windows
-abbrev pub window_rules : WindowRules → Rules
-window_rules r = record { width = r.width; keep = r.keep; least = r.least; need = r.need }
-
-abbrev pub sample_of : FileSample → Sample
-sample_of s = record { part = s.part; time = s.time; loads = s.loads }
+  pub caps : Caps
 
 -- the samples so far, and one more where it isn't refused
-abbrev pub and_accepted : Rules → List Sample → FileSample → List Sample
-and_accepted rules seen s = if is_none (refusal rules seen (sample_of s)) then seen ++ sample_of s ∷ [] else seen
+abbrev pub and_accepted : WindowRules → List Sample → Sample → List Sample
+and_accepted rules seen s = if is_none (refusal rules seen s) then seen ++ s ∷ [] else seen
 
 -- the samples that are accepted, one after another
-unfoldable pub accepted : Rules → List FileSample → List Sample
+unfoldable pub accepted : WindowRules → List Sample → List Sample
 accepted rules samples = fold (and_accepted rules) [] samples
 
 -- a partition with other loads, where there are any
@@ -44,7 +37,7 @@ loaded_from loads i (p ∷ ps) = loaded_one (loads i) p ∷ loaded_from loads (s
 
 -- the cluster of a file with the loads of its samples' windows; a partition without keeps what the file gives, or none
 unfoldable pub loaded_cluster : Meaning → Cluster
-loaded_cluster m = record m.cluster { parts = loaded_from (load_of (window_rules m.rules) (accepted (window_rules m.rules) m.samples)) 0 m.cluster.parts }
+loaded_cluster m = record m.cluster { parts = loaded_from (load_of m.rules (accepted m.rules m.samples)) 0 m.cluster.parts }
 
 -- what the bytes of a file give to plan for, or the first fault
 unfoldable pub input_of : List ℕ → Read ClusterLists

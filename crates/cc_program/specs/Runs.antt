@@ -1,12 +1,12 @@
 -- How a run ends, and what each end tells.
-use Rattle.std.specs.Prelude.{◌≡◌, ◌≢◌, ◌⊎◌, ℕ, List, [], ◌∷◌, ◌++◌, codes, map, Option, Some, None, IfSome, Result, Ok, Err}
+use Rattle.std.specs.Prelude.{◌≡◌, ◌≢◌, ◌⊎◌, ℕ, List, [], ◌∷◌, ◌++◌, codes, map, Option, Some, None, IfSome, Result, Ok, Err, OnOk}
 use Rattle.std.specs.List.{filter}
-use Rattle.cc_base.specs.Outside.{HasRisen, appended, IsPrefixOut}
+use Rattle.cc_base.specs.Outside.{HasRisen, appended, IsPrefixOut, with_name}
+use Rattle.cc_base.specs.declared.outside.FileFault.{FileFault as LoadFailed}
 use Rattle.cluster_json.specs.Faults.{Fault}
-use Rattle.cluster_json.specs.declared.config.Caps3.{Caps3}
+use Rattle.plan_terms.specs.declared.settings.Caps.{Caps}
 use Rattle.exec_terms.specs.Machine.{first_unfinished, lists_now}
 use Rattle.exec_terms.specs.Runs.{hosts_of}
-use Rattle.exec_terms.specs.declared.brokers.Caps.{Caps}
 use Rattle.exec_terms.specs.declared.brokers.Host.{Host}
 use Rattle.plan_terms.specs.Cluster.{Cluster, Lists}
 use Rattle.plan_terms.specs.States.{is_dead}
@@ -17,7 +17,7 @@ use Rattle.goal_set.specs.declared.kinds.GoalKind.{GoalKind}
 use Rattle.cc_program.specs.Answers.{failure_text, IsPlanText, IsAppliedText, IsFailureText, IsGoodText, IsFaultText}
 use Rattle.cc_program.specs.Goals.{rack_kinds}
 use Rattle.cc_program.specs.Input.{ClusterLists}
-use Rattle.cc_program.specs.Quiet.{Means, IsRefused, IsAnswer, IsRefusal, refusal_line}
+use Rattle.cc_program.specs.Quiet.{Means, IsRefused, IsAnswer, IsRefusal, LoadsAll, LoadsFile, refusal_line}
 use Rattle.cc_program.specs.Views.{cluster_lists}
 use Rattle.cc_program.specs.Words.{Asked, plan, apply, check, command}
 use Rattle.cc_program.specs.declared.input.Loaded.{Loaded}
@@ -35,6 +35,19 @@ Loads told before now (Ok loaded) = IfSome told (λ bytes. Means bytes (cluster_
 Loads told before now (Err (fault.Refused line)) = (f : Fault) × IfSome told (λ bytes. IsRefused bytes f) × (line.items ≡ refusal_line f)
 Loads told before now (Err fault.Failed) = HasRisen before now
 Loads told before now (Err fault.Memory) = Unit {0}
+
+-- a file that was loaded, refused or not, is in the log; one that was not may be
+abbrev pub LoadLogs : Option (List (List ℕ)) → Option (List (List ℕ)) → List ℕ → Result Loaded LoadFault → Type 0
+LoadLogs old new name (Ok loaded) = new ≡ with_name old name
+LoadLogs old new name (Err (fault.Refused line)) = new ≡ with_name old name
+LoadLogs old new name (Err fault.Failed) = (new ≡ old) ⊎ (new ≡ with_name old name)
+LoadLogs old new name (Err fault.Memory) = (new ≡ old) ⊎ (new ≡ with_name old name)
+
+-- of a command's further files, `check` loads its trace
+abbrev pub AnswerLogs : Option (List (List ℕ)) → Option (List (List ℕ)) → Asked → Result Answer LoadFailed → Type 0
+AnswerLogs old new (plan file) result = new ≡ old
+AnswerLogs old new (apply file) result = new ≡ old
+AnswerLogs old new (check file trace) result = OnOk result (new ≡ with_name old trace)
 
 -- a refusal with the line of the fault that is told, unless memory ran out
 abbrev pub TellsRefusal : Option Fault → LoadFault → Type 0
@@ -111,19 +124,26 @@ Runs words e WriteFault = (text : List ℕ) × IsAnswer words e.told (λ asked f
 Runs words e Memory = (command words ≢ None) × (e.written_now ≡ e.written_before)
 Runs words e TraceRefused = (text : List ℕ) × IsAnswer words e.told (λ asked file. IsRefusedText e.told asked file text) × (e.written_now ≡ appended e.written_before text)
 
--- how many movements there may be at a time, as the executor has it
-abbrev pub exec_caps : Caps3 → Caps
-exec_caps caps = record { broker = caps.broker; cluster = caps.cluster; leader = caps.leader }
+-- what each end says of the files that were loaded
+abbrev pub Logs : List (List ℕ) → Option (List (List ℕ)) → Option (List (List ℕ)) → End → Type 0
+Logs words old new Done = LoadsAll words old new
+Logs words old new Usage = new ≡ old
+Logs words old new (Refused line) = LoadsFile words old new
+Logs words old new (GoalFailed line) = LoadsAll words old new
+Logs words old new FileFault = Unit {0}
+Logs words old new WriteFault = LoadsAll words old new
+Logs words old new Memory = Unit {0}
+Logs words old new TraceRefused = LoadsAll words old new
 
 -- the brokers of a case, as the executor has them
 abbrev pub case_hosts : Cluster → List Host
 case_hosts c = hosts_of (map (λ b. b.id) c.brokers) (map (λ b. b.id) (filter (λ b. is_dead b.state) c.brokers))
 
 -- an execution, of the case's brokers and within the caps, from the one assignment to the other that is over, and the text of its lists
-abbrev pub IsApplied : Cluster → Caps3 → Lists → Lists → Answer → Type 0
+abbrev pub IsApplied : Cluster → Caps → Lists → Lists → Answer → Type 0
 IsApplied c caps before after (answer.Planned text) = ⊥
 IsApplied c caps before after (answer.Applied exec text) =
-    (exec.base ≡ before) × (exec.caps ≡ exec_caps caps) × (exec.hosts ≡ case_hosts c) × (first_unfinished exec ≡ None) × (lists_now exec ≡ after)
+    (exec.base ≡ before) × (exec.caps ≡ caps) × (exec.hosts ≡ case_hosts c) × (first_unfinished exec ≡ None) × (lists_now exec ≡ after)
     × (text.items ≡ assignment_text c.parts (lists_now exec) ++ 10 ∷ [])
 IsApplied c caps before after (answer.Failed line text) = ⊥
 IsApplied c caps before after (answer.Good text) = ⊥
@@ -152,7 +172,7 @@ IsPlanMade file goals (answer.Faulty text) = ⊥
 abbrev pub IsApplyMade : ClusterLists → List GoalKind → Answer → Type 0
 IsApplyMade file goals (answer.Planned text) = ⊥
 IsApplyMade file goals (answer.Applied exec text) =
-    (exec.base ≡ file.lists) × (exec.caps ≡ exec_caps file.caps) × (exec.hosts ≡ case_hosts file.cluster) × (first_unfinished exec ≡ None)
+    (exec.base ≡ file.lists) × (exec.caps ≡ file.caps) × (exec.hosts ≡ case_hosts file.cluster) × (first_unfinished exec ≡ None)
     × (text.items ≡ assignment_text file.cluster.parts (lists_now exec) ++ 10 ∷ []) × IsAppliedText file goals text.items
 IsApplyMade file goals (answer.Failed line text) = (goal : GoalKind) × IsFailureText file goals goal text.items × (line.items ≡ goal_line goal)
 IsApplyMade file goals (answer.Good text) = ⊥

@@ -18,13 +18,12 @@ ghost use Rattle.cc_program.specs.Runs.{IsApplied, IsApplyMade, IsCheckMade, IsF
 ghost use Rattle.cc_program.specs.Views.{cluster_lists};
 
 use crate::input::Loaded;
-use cluster_json::Caps3;
-use exec_terms::Caps;
 use executor_core::{Exec, carry_out};
 use goal_optimizer::{PlanFault, optimise};
 use goal_set::{Failure, GoalKind, GoalList};
 use load_model::{Assign, Case, Memory};
 use plan_check::{TraceFault, Verdict, check, read_trace};
+use plan_terms::Caps;
 use proposal_set::{assignment_text, proposals, reassignment_text};
 use serde_json::{Value, json};
 use std::alloc::{AllocError, Global};
@@ -111,7 +110,7 @@ fn lists_line(alloc: Global, case: &Case, exec: &Exec) -> Result<Vec<u8>, Memory
 fn applied(
     alloc: Global,
     case: &Case,
-    caps: &Caps3,
+    caps: &Caps,
     before: &Assign,
     after: &Assign,
 ) -> Result<Answer, Memory>
@@ -121,12 +120,7 @@ fn applied(
     requires evacuated { All (λ list. list_any (is_lost case.now) list ≡ false) after.now }
     ensures { IfOk result (IsApplied case.now caps.now before.now after.now) }
 {
-    let caps = Caps {
-        broker: caps.broker,
-        cluster: caps.cluster,
-        leader: caps.leader,
-    };
-    let exec = carry_out(alloc, case, caps, before, after)?;
+    let exec = carry_out(alloc, case, *caps, before, after)?;
     let text = lists_line(alloc, case, &exec)?;
     Ok(Answer::Applied(exec, text))
 }

@@ -8,7 +8,7 @@ ghost use Rattle.cc_program.specs.Quiet.{refusal_line};
 ghost use Rattle.cc_program.specs.Views.{cluster_lists};
 
 use crate::loads::loaded_case;
-use cluster_json::{Caps3, ClusterFile, FileRefusal, read_cluster};
+use cluster_json::{Caps, ClusterFile, FileRefusal, read_cluster};
 use load_model::{Assign, Case, Memory};
 use std::alloc::Global;
 
@@ -18,7 +18,7 @@ use std::alloc::Global;
 pub struct Loaded {
     pub case: Case,
     pub lists: Assign,
-    pub caps: Caps3,
+    pub caps: Caps,
 }
 
 /// What the bytes of a file give to plan for, or their first fault.

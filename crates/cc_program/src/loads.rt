@@ -2,18 +2,19 @@
 ghost use Rattle.std.specs.Prelude.{◌≡◌, ◌≤◌, ◌<◌, List, IfOk, IfSome, length};
 ghost use Rattle.cluster_json.specs.Ranges.{IsFile, IsSample};
 ghost use Rattle.cluster_json.specs.Views.{file_seen};
-ghost use Rattle.metric_windows.specs.Averages.{IsLoads};
-ghost use Rattle.metric_windows.specs.Samples.{Sample, load_of};
+ghost use Rattle.plan_terms.specs.Loads.{IsLoads};
+ghost use Rattle.metric_windows.specs.Samples.{load_of};
+ghost use Rattle.plan_terms.specs.declared.settings.Sample.{Sample};
 ghost use Rattle.metric_windows.specs.StandsFor.{StandsFor};
-ghost use Rattle.cc_program.specs.Input.{accepted, and_accepted, loaded_at, loaded_cluster, window_rules};
+ghost use Rattle.cc_program.specs.Input.{accepted, and_accepted, loaded_at, loaded_cluster};
 
-use cluster_json::{ClusterFile, FileSample};
+use cluster_json::{ClusterFile, Sample};
 use load_model::{Case, Loads, Memory};
 use metric_windows::Windows;
 use std::alloc::Global;
 
 // Adds a sample. One that is refused is left out.
-fn note(windows: &mut Windows, sample: &FileSample)
+fn note(windows: &mut Windows, sample: &Sample)
     requires { IsSample windows.old.parts sample.now }
     ensures stands { (seen : List Sample) → StandsFor windows.old seen → StandsFor windows.new (and_accepted windows.old.rules seen sample.now) }
     ensures rules { windows.new.rules ≡ windows.old.rules }
@@ -29,8 +30,8 @@ fn note(windows: &mut Windows, sample: &FileSample)
 #[tactic(auto, unfolding(crate::specs::Input::accepted))]
 fn windows_of(alloc: Global, file: &ClusterFile) -> Result<Windows, Memory>
     requires { IsFile file.now }
-    ensures stands { IfOk result (λ w. StandsFor w (accepted (window_rules file.now.rules) file.now.samples.items)) }
-    ensures rules { IfOk result (λ w. w.rules ≡ window_rules file.now.rules) }
+    ensures stands { IfOk result (λ w. StandsFor w (accepted file.now.rules file.now.samples.items)) }
+    ensures rules { IfOk result (λ w. w.rules ≡ file.now.rules) }
     ensures parts { IfOk result (λ w. w.parts ≡ length file.now.case.parts) }
 {
     let rules = file.rules;

@@ -1,6 +1,11 @@
 //! Plans the partition moves that keep a Kafka cluster within its limits.
 #![tactic(auto)]
 
+ghost use Rattle.std.specs.Prelude.{◌≡◌, ◌≢◌};
+ghost use Rattle.std.specs.Process.{exit_status};
+ghost use Rattle.cc_program.specs.Runs.{IsTold, line_of, status_of};
+ghost use Rattle.cc_program.specs.declared.quiet.End.{End};
+
 mod answers;
 mod goals;
 mod input;
@@ -8,10 +13,12 @@ mod loads;
 mod quiet;
 mod words;
 
-use cc_base::{HostFiles, HostSink, HostSource, HostStream};
+use cc_base::{Files, HostFiles, HostSink, HostSource, HostStream, Sink, Source};
 use quiet::{End, conclude, run_quiet};
+use std::alloc::Global;
 use std::io::ErrorKind;
 use std::process::ExitCode;
+use std::thread::Threads;
 use std::{env, io};
 
 // The words of the command line, without the program's name.
@@ -24,7 +31,10 @@ fn words_of(rt: &HostRuntime) -> io::Result<Vec<String>> {
 }
 
 // How a run ends whose words can't be had: for want of memory, or for a word that is no text.
-fn end_without_words(kind: ErrorKind) -> End {
+fn end_without_words(kind: ErrorKind) -> End
+    ensures memory { kind ≡ ErrorKind.OutOfMemory → result ≡ End.Memory }
+    ensures usage { kind ≢ ErrorKind.OutOfMemory → result ≡ End.Usage }
+{
     if kind == ErrorKind::OutOfMemory {
         End::Memory
     } else {
@@ -32,25 +42,47 @@ fn end_without_words(kind: ErrorKind) -> End {
     }
 }
 
+// The code with which the process ends: the status itself.
+fn exit_code(status: u8) -> ExitCode
+    ensures { exit_status result ≡ status }
+{
+    ExitCode::from(status)
+}
+
+// Runs the words, if they can be had. The code is the status of how that ended, and the error stream has its line.
+fn run_words<R: Threads + Sync, F: Files, I: Source, O: Sink>(
+    rt: &R,
+    alloc: Global,
+    words: io::Result<Vec<String>>,
+    files: &mut F,
+    input: &mut I,
+    out: &mut O,
+    err: &mut O,
+) -> ExitCode
+    ensures { (end : End) × (exit_status result ≡ status_of end)
+        × IsTold (line_of end) (O.written err.old) (O.written err.new) (O.faults err.old) (O.faults err.new) }
+{
+    match words {
+        Ok(words) => exit_code(run_quiet(rt, alloc, &words, files, input, out, err)),
+        Err(e) => exit_code(conclude(err, &end_without_words(e.kind()))),
+    }
+}
+
 fn main(rt: HostRuntime) -> ExitCode {
-    let mut err = HostSink::new(HostStream::Err(rt.stderr()));
-    let words = match words_of(&rt) {
-        Ok(words) => words,
-        Err(e) => return ExitCode::from(conclude(&mut err, &end_without_words(e.kind()))),
-    };
+    let words = words_of(&rt);
     let mut files = HostFiles::new(rt);
     let mut input = HostSource::new(rt.stdin());
     let mut out = HostSink::new(HostStream::Out(rt.stdout()));
-    let status = run_quiet(
+    let mut err = HostSink::new(HostStream::Err(rt.stderr()));
+    run_words(
         &rt,
         rt.alloc(),
-        &words,
+        words,
         &mut files,
         &mut input,
         &mut out,
         &mut err,
-    );
-    ExitCode::from(status)
+    )
 }
 
 #[cfg(test)]

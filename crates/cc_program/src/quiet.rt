@@ -1,13 +1,13 @@
 // The commands that wait for nobody.
 ghost use Rattle.std.specs.Prelude.{◌≡◌, ◌≢◌, ◌≤◌, ◌⊎◌, ◌↔◌, List, ℕ, map, Some, None, string_bytes, IfOk, IsErrOf};
-ghost use Rattle.cc_base.specs.Outside.{HasRisen, IsPrefixOut, appended};
+ghost use Rattle.cc_base.specs.Outside.{HasRisen, IsPrefixOut, appended, with_name};
 ghost use Rattle.cluster_json.specs.Faults.{Fault};
 ghost use Rattle.cluster_json.specs.Ranges.{AreCaps};
 ghost use Rattle.cluster_json.specs.Reading.{fault_of};
 ghost use Rattle.goal_set.specs.declared.kinds.GoalKind.{GoalKind};
 ghost use Rattle.plan_terms.specs.Belongs.{Belongs};
-ghost use Rattle.cc_program.specs.Quiet.{IsAnswer, IsRefusal, IsRefused};
-ghost use Rattle.cc_program.specs.Runs.{IsDoneText, IsFailedText, IsMade, IsOut, IsRefusedText, IsText, IsTold, Loads, Runs, TellsRefusal, Writes, goal_line, line_of, status_of};
+ghost use Rattle.cc_program.specs.Quiet.{IsAnswer, IsRefusal, IsRefused, LoadsAll, LoadsFile};
+ghost use Rattle.cc_program.specs.Runs.{AnswerLogs, IsDoneText, IsFailedText, IsMade, IsOut, IsRefusedText, IsText, IsTold, LoadLogs, Loads, Logs, Runs, TellsRefusal, Writes, goal_line, line_of, status_of};
 ghost use Rattle.cc_program.specs.Views.{asked, cluster_lists};
 ghost use Rattle.cc_program.specs.Words.{Asked, command, file_of};
 ghost use Rattle.cc_program.specs.declared.quiet.End.{End};
@@ -65,6 +65,7 @@ fn load<F: Files>(alloc: Global, files: &mut F, name: &str) -> Result<Loaded, Lo
     ensures belongs { IfOk result (λ loaded. Belongs loaded.case loaded.lists) }
     ensures caps { IfOk result (λ loaded. AreCaps loaded.caps) }
     ensures contents { F.contents files.new ≡ F.contents files.old }
+    ensures logs { LoadLogs (F.log files.old) (F.log files.new) name.now result }
 {
     match files.load(alloc, name) {
         Ok(bytes) => match read_input(alloc, &bytes) {
@@ -88,6 +89,7 @@ fn answer<F: Files>(
     ensures later { F.faults files.old ≤ F.faults files.new }
     ensures cause { IsErrOf result FileFault.Failed → HasRisen (F.faults files.old) (F.faults files.new) }
     ensures made { IfOk result (IsMade (F.contents files.old) (asked request.entry) (cluster_lists loaded.now)) }
+    ensures logs { AnswerLogs (F.log files.old) (F.log files.new) (asked request.entry) result }
 {
     let goals = rack_goals(alloc)?;
     match request {
@@ -137,6 +139,9 @@ fn run<F: Files, O: Sink>(alloc: Global, words: &[String], files: &mut F, out: &
       written_before = O.written out.old;
       written_now = O.written out.new;
     }) result }
+    ensures logs { Logs (map string_bytes words.now) (F.log files.old) (F.log files.new) result }
+    ensures alone { (asked : Asked) (bytes : List ℕ) (fault : Fault) → command (map string_bytes words.now) ≡ Some asked → F.contents files.old (file_of asked) ≡ Some bytes
+        → IsRefused bytes fault → (F.log files.new ≡ F.log files.old) ⊎ (F.log files.new ≡ with_name (F.log files.old) (file_of asked)) }
 {
     let Some(request) = command(words) else {
         return End::Usage;
@@ -201,7 +206,8 @@ pub fn conclude<O: Sink>(err: &mut O, end: &End) -> u8
 /// 9 for want of memory and 11 for a trace that is refused. The answer goes to `out` once it is whole in memory, one line on
 /// any end but 0 to `err`; what becomes of that line changes nothing.
 ///
-/// What is said of contents holds where `files` and `out` tell them, as those over memory do.
+/// What is said of contents, and of which files were loaded, holds where `files` and `out` tell it, as those over memory do.
+/// The input is left alone.
 pub fn run_quiet<R: Threads + Sync, F: Files, I: Source, O: Sink>(
     _rt: &R,
     alloc: Global,
@@ -239,6 +245,16 @@ pub fn run_quiet<R: Threads + Sync, F: Files, I: Source, O: Sink>(
     ensures statuses { (result ≡ 0) ⊎ (result ≡ 2) ⊎ (result ≡ 3) ⊎ (result ≡ 4) ⊎ (result ≡ 5) ⊎ (result ≡ 7) ⊎ (result ≡ 9) ⊎ (result ≡ 11) }
     // The status's line goes to the error stream, or a front of it where that fails.
     ensures line { (end : End) × (result ≡ status_of end) × IsTold (line_of end) (O.written err.old) (O.written err.new) (O.faults err.old) (O.faults err.new) }
+    // FILE is loaded before TRACE, and nothing else is. 0, 4, 7 and 11: all files of the command, in their order.
+    ensures loaded { (result ≡ 0) ⊎ (result ≡ 4) ⊎ (result ≡ 7) ⊎ (result ≡ 11) → LoadsAll (map string_bytes words.now) (F.log files.old) (F.log files.new) }
+    // 2: none. 3: the cluster file alone, and no more than that wherever it has a fault.
+    ensures unloaded { result ≡ 2 → F.log files.new ≡ F.log files.old }
+    ensures loaded_alone { result ≡ 3 → LoadsFile (map string_bytes words.now) (F.log files.old) (F.log files.new) }
+    ensures alone { (asked : Asked) (bytes : List ℕ) (fault : Fault) → command (map string_bytes words.now) ≡ Some asked → F.contents files.old (file_of asked) ≡ Some bytes
+        → IsRefused bytes fault → (F.log files.new ≡ F.log files.old) ⊎ (F.log files.new ≡ with_name (F.log files.old) (file_of asked)) }
+    // The input is left alone.
+    ensures input_left { I.left _input.new ≡ I.left _input.old }
+    ensures input_faults { I.faults _input.new ≡ I.faults _input.old }
     // Counts never fall.
     ensures files_later { F.faults files.old ≤ F.faults files.new }
     ensures out_later { O.faults out.old ≤ O.faults out.new }

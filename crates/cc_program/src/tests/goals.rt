@@ -7,7 +7,7 @@ use crate::answers::{Answer, make_plan};
 use crate::input::{Loaded, read_input};
 use goal_optimizer::{PlanFault, optimise};
 use goal_set::GoalList;
-use load_model::{Assign, Case, GoalName};
+use load_model::{Assign, GoalName};
 use plan_check::{Verdict, check, read_trace, trace_text};
 use std::alloc::Global;
 use std::process::Abort;
@@ -15,26 +15,37 @@ use std::test::Fail;
 
 // A broker whose disk is filled to 80 of 100, and to 81.
 const FULL_DISK: &str =
-    "{\"version\":1,\"brokers\":[{\"id\":0}],\"brokerCapacities\":[{\"brokerId\":\"-1\",\"capacity\":{\"DISK\":\"100\",\"CPU\":\"100\",\"NW_IN\":\"100\",\"NW_OUT\":\"100\"}}],\"partitions\":[{\"topic\":\"t\",\"partition\":0,\"replicas\":[0],\"load\":{\"leader\":{\"DISK\":80}}}],\"config\":{\"disk.capacity.threshold\":\"0.80\"}}";
+    r#"{"version":1,"brokers":[{"id":0}],"brokerCapacities":[{"brokerId":"-1","capacity":{"DISK":"100","CPU":"100","NW_IN":"100","NW_OUT":"100"}}],"partitions":[{"topic":"t","partition":0,"replicas":[0],"load":{"leader":{"DISK":80}}}],"config":{"disk.capacity.threshold":"0.80"}}"#;
 
 const OVERFULL_DISK: &str =
-    "{\"version\":1,\"brokers\":[{\"id\":0}],\"brokerCapacities\":[{\"brokerId\":\"-1\",\"capacity\":{\"DISK\":\"100\",\"CPU\":\"100\",\"NW_IN\":\"100\",\"NW_OUT\":\"100\"}}],\"partitions\":[{\"topic\":\"t\",\"partition\":0,\"replicas\":[0],\"load\":{\"leader\":{\"DISK\":81}}}],\"config\":{\"disk.capacity.threshold\":\"0.80\"}}";
+    r#"{"version":1,"brokers":[{"id":0}],"brokerCapacities":[{"brokerId":"-1","capacity":{"DISK":"100","CPU":"100","NW_IN":"100","NW_OUT":"100"}}],"partitions":[{"topic":"t","partition":0,"replicas":[0],"load":{"leader":{"DISK":81}}}],"config":{"disk.capacity.threshold":"0.80"}}"#;
 
 // Each action that would even the disks would give a broker too much inbound load.
 const FULL_NETWORK: &str =
-    "{\"version\":1,\"brokers\":[{\"id\":0},{\"id\":1}],\"brokerCapacities\":[{\"brokerId\":\"-1\",\"capacity\":{\"DISK\":\"100\",\"CPU\":\"100\",\"NW_IN\":\"100\",\"NW_OUT\":\"100\"}}],\"partitions\":[{\"topic\":\"t\",\"partition\":0,\"replicas\":[0],\"load\":{\"leader\":{\"DISK\":50,\"NW_IN\":0}}},{\"topic\":\"t\",\"partition\":1,\"replicas\":[1],\"load\":{\"leader\":{\"DISK\":40,\"NW_IN\":70}}},{\"topic\":\"t\",\"partition\":2,\"replicas\":[0],\"load\":{\"leader\":{\"DISK\":10,\"NW_IN\":11}}}],\"config\":{\"network.inbound.capacity.threshold\":\"0.80\",\"disk.balance.threshold\":\"1.00\"}}";
+    r#"{"version":1,"brokers":[{"id":0},{"id":1}],"brokerCapacities":[{"brokerId":"-1","capacity":{"DISK":"100","CPU":"100","NW_IN":"100","NW_OUT":"100"}}],"partitions":[{"topic":"t","partition":0,"replicas":[0],"load":{"leader":{"DISK":50,"NW_IN":0}}},{"topic":"t","partition":1,"replicas":[1],"load":{"leader":{"DISK":40,"NW_IN":70}}},{"topic":"t","partition":2,"replicas":[0],"load":{"leader":{"DISK":10,"NW_IN":11}}}],"config":{"network.inbound.capacity.threshold":"0.80","disk.balance.threshold":"1.00"}}"#;
 
 // The disks are evened by an exchange of two partitions.
 const UNEVEN_DISKS: &str =
-    "{\"version\":1,\"brokers\":[{\"id\":0},{\"id\":1}],\"brokerCapacities\":[{\"brokerId\":\"-1\",\"capacity\":{\"DISK\":\"100\",\"CPU\":\"100\",\"NW_IN\":\"100\",\"NW_OUT\":\"100\"}}],\"partitions\":[{\"topic\":\"t\",\"partition\":0,\"replicas\":[0],\"load\":{\"leader\":{\"DISK\":30}}},{\"topic\":\"x\",\"partition\":0,\"replicas\":[0],\"load\":{\"leader\":{\"DISK\":30}}},{\"topic\":\"t\",\"partition\":1,\"replicas\":[1],\"load\":{\"leader\":{\"DISK\":20}}},{\"topic\":\"x\",\"partition\":1,\"replicas\":[1],\"load\":{\"leader\":{\"DISK\":20}}}],\"config\":{\"disk.balance.threshold\":\"1.00\"}}";
+    r#"{"version":1,"brokers":[{"id":0},{"id":1}],"brokerCapacities":[{"brokerId":"-1","capacity":{"DISK":"100","CPU":"100","NW_IN":"100","NW_OUT":"100"}}],"partitions":[{"topic":"t","partition":0,"replicas":[0],"load":{"leader":{"DISK":30}}},{"topic":"x","partition":0,"replicas":[0],"load":{"leader":{"DISK":30}}},{"topic":"t","partition":1,"replicas":[1],"load":{"leader":{"DISK":20}}},{"topic":"x","partition":1,"replicas":[1],"load":{"leader":{"DISK":20}}}],"config":{"disk.balance.threshold":"1.00"}}"#;
 
 // What the lost broker holds is too much for the other.
 const TOO_MUCH_TO_EVACUATE: &str =
-    "{\"version\":1,\"brokers\":[{\"id\":0,\"state\":\"DEAD\"},{\"id\":1}],\"brokerCapacities\":[{\"brokerId\":\"-1\",\"capacity\":{\"DISK\":\"100\",\"CPU\":\"100\",\"NW_IN\":\"100\",\"NW_OUT\":\"100\"}}],\"partitions\":[{\"topic\":\"t\",\"partition\":0,\"replicas\":[0],\"load\":{\"leader\":{\"DISK\":90}}}],\"config\":{\"disk.capacity.threshold\":\"0.80\"}}";
+    r#"{"version":1,"brokers":[{"id":0,"state":"DEAD"},{"id":1}],"brokerCapacities":[{"brokerId":"-1","capacity":{"DISK":"100","CPU":"100","NW_IN":"100","NW_OUT":"100"}}],"partitions":[{"topic":"t","partition":0,"replicas":[0],"load":{"leader":{"DISK":90}}}],"config":{"disk.capacity.threshold":"0.80"}}"#;
 
 // Each broker may hold one replica, and the leader on the demoted one may not go to the other partition.
 const DEMOTED_AND_FULL: &str =
-    "{\"version\":1,\"brokers\":[{\"id\":0,\"state\":\"DEMOTED\"},{\"id\":1}],\"brokerCapacities\":[{\"brokerId\":\"0\",\"capacity\":{\"DISK\":\"100\",\"CPU\":\"100\",\"NW_IN\":\"100\",\"NW_OUT\":\"100\"}},{\"brokerId\":\"1\",\"capacity\":{\"DISK\":\"300\",\"CPU\":\"100\",\"NW_IN\":\"100\",\"NW_OUT\":\"100\"}}],\"partitions\":[{\"topic\":\"t\",\"partition\":0,\"replicas\":[0],\"load\":{\"leader\":{\"DISK\":30}}},{\"topic\":\"t\",\"partition\":1,\"replicas\":[1],\"load\":{\"leader\":{\"DISK\":10}}}],\"config\":{\"max.replicas.per.broker\":\"1\",\"disk.balance.threshold\":\"1.00\"}}";
+    r#"{"version":1,"brokers":[{"id":0,"state":"DEMOTED"},{"id":1}],"brokerCapacities":[{"brokerId":"0","capacity":{"DISK":"100","CPU":"100","NW_IN":"100","NW_OUT":"100"}},{"brokerId":"1","capacity":{"DISK":"300","CPU":"100","NW_IN":"100","NW_OUT":"100"}}],"partitions":[{"topic":"t","partition":0,"replicas":[0],"load":{"leader":{"DISK":30}}},{"topic":"t","partition":1,"replicas":[1],"load":{"leader":{"DISK":10}}}],"config":{"max.replicas.per.broker":"1","disk.balance.threshold":"1.00"}}"#;
+
+// Broker 0 leads both partitions, and each broker is to lead one; to lead two; and the same in a file whose version has no such
+// member.
+const ONE_LEADER: &str =
+    r#"{"version":2,"brokers":[{"id":0},{"id":1}],"partitions":[{"topic":"t","partition":0,"replicas":[0,1]},{"topic":"t","partition":1,"replicas":[0,1]}],"minTopicLeaders":[{"topic":"t","leaders":1}]}"#;
+
+const TWO_LEADERS: &str =
+    r#"{"version":2,"brokers":[{"id":0},{"id":1}],"partitions":[{"topic":"t","partition":0,"replicas":[0,1]},{"topic":"t","partition":1,"replicas":[0,1]}],"minTopicLeaders":[{"topic":"t","leaders":2}]}"#;
+
+const LEADERS_OF_VERSION_1: &str =
+    r#"{"version":1,"brokers":[{"id":0},{"id":1}],"partitions":[{"topic":"t","partition":0,"replicas":[0,1]},{"topic":"t","partition":1,"replicas":[0,1]}],"minTopicLeaders":[{"topic":"t","leaders":1}]}"#;
 
 const NOTHING: &str = "{\"partitions\":[],\"version\":1}\n";
 
@@ -95,7 +106,14 @@ fn plans_for_lists_of_goals(rt: HostRuntime) -> Result<(), Fail> {
     let alloc = rt.alloc();
     let overfull = "{\"failed\":\"DiskCapacityGoal\",\"measure\":\"100\"}\n";
     let evacuated = "{\"failed\":\"DiskCapacityGoal\",\"measure\":\"1000\"}\n";
+    let least = "MinTopicLeadersPerBrokerGoal";
+    let led =
+        "{\"partitions\":[{\"partition\":0,\"replicas\":[1,0],\"topic\":\"t\"}],\"version\":1}\n";
+    let too_few = "{\"failed\":\"MinTopicLeadersPerBrokerGoal\",\"measure\":\"2\"}\n";
     let rows = [
+        (ONE_LEADER, least, led),
+        (TWO_LEADERS, least, too_few),
+        (LEADERS_OF_VERSION_1, least, NOTHING),
         (FULL_DISK, "DiskCapacityGoal", NOTHING),
         (OVERFULL_DISK, "DiskCapacityGoal", overfull),
         (
@@ -120,35 +138,24 @@ fn plans_for_lists_of_goals(rt: HostRuntime) -> Result<(), Fail> {
     Ok(())
 }
 
-// Excludes the partitions of a topic.
-fn exclude(case: &mut Case, topic: &str) {
-    let end = case.parts().len();
-    for part in 0..end {
-        let parts = case.parts();
-        if part < parts.len() && parts[part].topic.as_str() == topic {
+// The uneven disks, with the partitions of topic x excluded.
+fn excluding_x(alloc: Global) -> Result<Loaded, Fail>
+    ensures { IfOk result (λ loaded. Belongs loaded.case loaded.lists) }
+{
+    let Loaded { mut case, caps, .. } = read_input(alloc, UNEVEN_DISKS.as_bytes())?;
+    for part in [1, 3] {
+        if part < case.parts().len() {
             case.set_excluded(part, true);
         }
     }
-}
-
-// What the text of a file gives to plan for, with the partitions of a topic excluded.
-fn excluding(alloc: Global, text: &str, topic: &str) -> Result<Loaded, Fail>
-    ensures { IfOk result (λ loaded. Belongs loaded.case loaded.lists) }
-{
-    let Loaded {
-        mut case,
-        lists,
-        caps,
-    } = read_input(alloc, text.as_bytes())?;
-    let mut copies = Vec::new(alloc);
-    for list in lists.lists() {
-        copies.push(list.as_slice().to_vec(alloc)?)?;
+    let mut lists = Vec::new(alloc);
+    for broker in [0, 0, 1, 1] {
+        lists.push(vec![in alloc; broker]?)?;
     }
-    exclude(&mut case, topic);
-    if copies.len() != case.parts().len() {
+    if lists.len() != case.parts().len() {
         return Err(Fail::from("a partition is gone"));
     }
-    let lists = Assign::new(alloc, &case, copies)?;
+    let lists = Assign::new(alloc, &case, lists)?;
     Ok(Loaded { case, lists, caps })
 }
 
@@ -157,7 +164,7 @@ fn excluded_partitions_stay(rt: HostRuntime) -> Result<(), Fail> {
     let alloc = rt.alloc();
     let exchanged =
         "{\"partitions\":[{\"partition\":0,\"replicas\":[1],\"topic\":\"t\"},{\"partition\":1,\"replicas\":[0],\"topic\":\"t\"}],\"version\":1}\n";
-    let loaded = excluding(alloc, UNEVEN_DISKS, "x")?;
+    let loaded = excluding_x(alloc)?;
     let goals = goals_named(alloc, "DiskUsageDistributionGoal")?;
     let text = planned(alloc, &loaded, &goals)?;
     assert_eq!(rt; text.as_slice(), exchanged.as_bytes());
