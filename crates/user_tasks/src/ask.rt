@@ -1,8 +1,22 @@
 // What a request for a plan asks.
-ghost use Rattle.std.specs.Prelude.{◌≡◌, ◌↔◌, IsTrue, List, ℕ};
+ghost use Rattle.std.specs.Prelude.{◌≡◌, ◌↔◌, IfOk, IsTrue, List, ℕ};
 
 use crate::lists::ListOf;
-use load_model::{GoalName, Topic};
+use plan_terms::{GoalName, Memory, Topic};
+use std::alloc::Global;
+
+/// What is shown of the service.
+#[derive(Clone, Copy, PartialEq, Eq, Debug)]
+pub enum Query {
+    /// How far the executor is, and how many partitions have valid loads.
+    State,
+    /// The loads of the brokers.
+    Load,
+    /// The replicas of the partitions, and what is being moved.
+    ClusterState,
+    /// The user tasks.
+    UserTasks,
+}
 
 /// What a plan is asked for.
 #[derive(Clone, Copy, PartialEq, Eq, Debug)]
@@ -38,6 +52,9 @@ trait Named {
     fn name(&self) -> &str
         ensures { result.now ≡ name self.now };
 
+    fn copy(&self, alloc: Global) -> Result<Self, Memory>
+        ensures { IfOk result (λ n. n ≡ self.now) };
+
     ghost told_apart: { (a b : Self) → name a ≡ name b → a ≡ b };
 }
 
@@ -48,6 +65,10 @@ impl Named for GoalName {
         self.as_str()
     }
 
+    fn copy(&self, alloc: Global) -> Result<Self, Memory> {
+        self.copy(alloc)
+    }
+
     ghost told_apart = { λ _ _ e. e };
 }
 
@@ -56,6 +77,10 @@ impl Named for Topic {
 
     fn name(&self) -> &str {
         self.as_str()
+    }
+
+    fn copy(&self, alloc: Global) -> Result<Self, Memory> {
+        self.copy(alloc)
     }
 
     ghost told_apart = { λ _ _ e. e };
@@ -75,7 +100,32 @@ fn same_names<N: Named>(one: &[N], other: &[N]) -> bool
     true
 }
 
+// The same names.
+fn copied<N: Named + Drop>(alloc: Global, names: &[N]) -> Result<ListOf<N>, Memory>
+    ensures { IfOk result (λ l. l ≡ names.now) }
+{
+    let mut copies = Vec::new(alloc);
+    for named in names {
+        copies.push(named.copy(alloc)?)?;
+    }
+    Ok(ListOf::new(copies))
+}
+
 impl Ask {
+    /// The same request.
+    pub fn copy(&self, alloc: Global) -> Result<Ask, Memory>
+        ensures { IfOk result (λ a. a ≡ self.now) }
+    {
+        Ok(Ask {
+            op: self.op,
+            brokers: ListOf::new(Vec::from_slice(alloc, self.brokers.as_slice())?),
+            goals: copied(alloc, self.goals.as_slice())?,
+            skip: self.skip,
+            excluded: copied(alloc, self.excluded.as_slice())?,
+            dryrun: self.dryrun,
+        })
+    }
+
     /// Whether both ask the same.
     pub fn is_same(&self, other: &Ask) -> bool
         ensures { IsTrue result ↔ (self.now ≡ other.now) }

@@ -1,7 +1,10 @@
 // Ids of user tasks.
-ghost use Rattle.std.specs.Prelude.{◌≡◌, ℕ, ◌<◌, ◌^◌, IfSome, MatchOption};
+ghost use Rattle.std.specs.Prelude.{◌≡◌, ℕ, ◌<◌, ◌^◌, Some, IfOk, IfSome, MatchOption, string_bytes};
+ghost use Rattle.uuid.specs.Text.{hyphenated_text, lower, parsed};
 ghost use Rattle.user_tasks.specs.Ids.{id_of};
 
+use plan_terms::Memory;
+use std::alloc::Global;
 use uuid::Uuid;
 
 /// The id of the user task with this number: a UUID of version 8 (RFC 9562, section 5.8) with the number's highest byte in
@@ -36,6 +39,16 @@ pub fn number_of(id: Uuid) -> Option<u64>
     } else {
         None
     }
+}
+
+/// The text of an id, as it stands in replies: 32 lowercase hexadecimal digits in five groups, parted by hyphens.
+pub fn id_text(alloc: Global, id: Uuid) -> Result<String, Memory>
+    ensures text { IfOk result (λ s. string_bytes s ≡ hyphenated_text lower id) }
+    ensures parsed { IfOk result (λ s. parsed (string_bytes s) ≡ Some id) }
+{
+    let mut buffer = Uuid::encode_buffer();
+    let text = id.hyphenated().encode_lower(&mut buffer);
+    Ok(String::from_str(alloc, text)?)
 }
 
 /// Law: no two numbers have the same id.

@@ -8,7 +8,7 @@ mod table;
 #[cfg(test)]
 mod tests;
 
-pub use ask::{Ask, Op};
-pub use ids::{number_of, task_id};
+pub use ask::{Ask, Op, Query};
+pub use ids::{id_text, number_of, task_id};
 pub use lists::ListOf;
 pub use table::{AdmitFault, FindFault, Status, TaskTable, UserTask};

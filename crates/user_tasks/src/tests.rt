@@ -1,6 +1,6 @@
 // Ids on numbers at their ends, and a table that fills up.
 use super::*;
-use load_model::{GoalName, Topic};
+use plan_terms::{GoalName, Topic};
 use std::alloc::Global;
 use std::test::Fail;
 use uuid::Uuid;
@@ -13,16 +13,11 @@ const IDS: [(u64, &str); 5] = [
     (u64::MAX, "000000ff-0000-8000-80ff-ffffffffffff"),
 ];
 
-fn text(alloc: Global, id: Uuid) -> Result<String, Fail> {
-    let mut buffer = Uuid::encode_buffer();
-    Ok(String::from_str(alloc, id.hyphenated().encode_lower(&mut buffer))?)
-}
-
 #[test]
 fn ids_hold_their_numbers(rt: HostRuntime) -> Result<(), Fail> {
     let alloc = rt.alloc();
     for (number, hex) in &IDS {
-        assert_eq!(rt; text(alloc, task_id(*number))?.as_str(), *hex);
+        assert_eq!(rt; id_text(alloc, task_id(*number))?.as_str(), *hex);
         assert_eq!(rt; number_of(task_id(*number)), Some(*number));
     }
     assert_eq!(rt; number_of(Uuid::nil()), None);
@@ -67,8 +62,8 @@ fn a_task_answers_to_its_own_request(rt: HostRuntime) -> Result<(), Fail> {
     let alloc = rt.alloc();
     let mut table = TaskTable::new(alloc);
     let first = ask(alloc, Op::RemoveBroker, &[1, 2], "RackAwareGoal", "t")?;
+    let same = first.copy(alloc)?;
     assert!(rt; table.admit(first).is_ok());
-    let same = ask(alloc, Op::RemoveBroker, &[1, 2], "RackAwareGoal", "t")?;
     let id = task_id(1);
     assert_eq!(rt; answer(alloc, &table, id, &same)?.as_str(), "Active");
     table.set(1, Status::InExecution);

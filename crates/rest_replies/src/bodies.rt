@@ -1,0 +1,168 @@
+// The bodies of replies to requests that change something, as JSON.
+ghost use Rattle.std.specs.Prelude.{◌≡◌, map, IfOk};
+ghost use Rattle.serde_json.specs.Data.{array};
+ghost use Rattle.serde_json.specs.View.{items_of, view};
+ghost use Rattle.rest_replies.specs.Bodies.{caps_data, done_data, ended_data, error_data, failed_data, killed_data, number_data, numbers_data, open_data, proposal_data, proposals_data, pumped_data, sampled_data, stopped_data};
+
+use crate::texts::task_status_text;
+use core_terms::Named;
+use exec_terms::{Killed, Stopped};
+use goal_set::GoalKind;
+use plan_terms::{Caps, Memory};
+use serde_json::{Value, json};
+use std::alloc::Global;
+use user_tasks::{Status, id_text};
+use uuid::Uuid;
+
+/// Whole numbers.
+pub fn numbers_value(alloc: Global, numbers: &[u32]) -> Result<Value, Memory>
+    ensures { IfOk result (λ v. view v ≡ numbers_data numbers.now) }
+{
+    let mut list = Vec::new(alloc);
+    for number in numbers {
+        list.push(Value::from(*number))?;
+    }
+    Ok(Value::Array(list))
+}
+
+/// A refusal.
+pub fn error_value(alloc: Global, text: &str) -> Result<Value, Memory>
+    ensures { IfOk result (λ v. view v ≡ error_data text.now) }
+{
+    Ok(json!(in alloc; {"errorMessage": text, "version": 1u64})?)
+}
+
+/// A user task that is still to be worked on.
+pub fn open_value(alloc: Global, id: Uuid, status: Status) -> Result<Value, Memory>
+    ensures { IfOk result (λ v. view v ≡ open_data id status) }
+{
+    let id = id_text(alloc, id)?;
+    let id = id.as_str();
+    let status = task_status_text(status);
+    Ok(json!(in alloc; {"status": status, "userTaskId": id, "version": 1u64})?)
+}
+
+// A partition's list, as it was and as it is to be.
+fn proposal_value(alloc: Global, named: &Named) -> Result<Value, Memory>
+    ensures { IfOk result (λ v. view v ≡ proposal_data named.now) }
+{
+    let topic = named.topic.as_str();
+    Ok(json!(in alloc; {
+        "newReplicas": (numbers_value(alloc, named.after.as_slice())?),
+        "oldReplicas": (numbers_value(alloc, named.before.as_slice())?),
+        "topicPartition": {"partition": (named.number), "topic": topic}
+    })?)
+}
+
+// What a plan changes.
+fn proposals_value(alloc: Global, proposals: &[Named]) -> Result<Value, Memory>
+    ensures { IfOk result (λ v. view v ≡ proposals_data proposals.now) }
+{
+    let mut list = Vec::new(alloc);
+    for proposal in proposals {
+        list.push(proposal_value(alloc, proposal)?)?;
+    }
+    Ok(Value::Array(list))
+}
+
+/// A user task that is done, with what its plan changed.
+pub fn done_value(
+    alloc: Global,
+    id: Uuid,
+    status: Status,
+    proposals: &[Named],
+) -> Result<Value, Memory>
+    ensures { IfOk result (λ v. view v ≡ done_data id status proposals.now) }
+{
+    let proposals = proposals_value(alloc, proposals)?;
+    let id = id_text(alloc, id)?;
+    let id = id.as_str();
+    let status = task_status_text(status);
+    Ok(
+        json!(in alloc; {"proposals": proposals, "status": status, "userTaskId": id, "version": 1u64})?,
+    )
+}
+
+/// A user task that a goal failed, with what of it stays broken.
+pub fn failed_value(
+    alloc: Global,
+    id: Uuid,
+    status: Status,
+    goal: GoalKind,
+    left: u128,
+) -> Result<Value, Memory>
+    ensures { IfOk result (λ v. view v ≡ failed_data id status goal left) }
+{
+    let name = goal.name();
+    let measure = format!(in alloc; "{left}")?;
+    let measure = measure.as_str();
+    let id = id_text(alloc, id)?;
+    let id = id.as_str();
+    let status = task_status_text(status);
+    Ok(
+        json!(in alloc; {"failed": name, "measure": measure, "status": status, "userTaskId": id, "version": 1u64})?,
+    )
+}
+
+/// A user task whose execution ended with tasks that were aborted or are dead.
+pub fn ended_value(
+    alloc: Global,
+    id: Uuid,
+    status: Status,
+    aborted: u32,
+    dead: u32,
+    proposals: &[Named],
+) -> Result<Value, Memory>
+    ensures { IfOk result (λ v. view v ≡ ended_data id status aborted dead proposals.now) }
+{
+    let id = id_text(alloc, id)?;
+    let id = id.as_str();
+    let status = task_status_text(status);
+    Ok(json!(in alloc; {
+        "aborted": aborted,
+        "dead": dead,
+        "proposals": (proposals_value(alloc, proposals)?),
+        "status": status,
+        "userTaskId": id,
+        "version": 1u64
+    })?)
+}
+
+/// A stop.
+pub fn stopped_value(alloc: Global, stopped: &Stopped) -> Result<Value, Memory>
+    ensures { IfOk result (λ v. view v ≡ stopped_data stopped.now) }
+{
+    Ok(
+        json!(in alloc; {"aborted": (stopped.aborted), "aborting": (stopped.aborting), "version": 1u64})?,
+    )
+}
+
+/// The death of a broker.
+pub fn killed_value(alloc: Global, killed: &Killed) -> Result<Value, Memory>
+    ensures { IfOk result (λ v. view v ≡ killed_data killed.now) }
+{
+    Ok(json!(in alloc; {"aborting": (killed.aborting), "dead": (killed.dead), "version": 1u64})?)
+}
+
+/// A sample that counts.
+pub fn sampled_value(alloc: Global) -> Result<Value, Memory>
+    ensures { IfOk result (λ v. view v ≡ sampled_data) }
+{
+    Ok(json!(in alloc; {"accepted": true, "version": 1u64})?)
+}
+
+/// The caps in force.
+pub fn caps_value(alloc: Global, caps: &Caps) -> Result<Value, Memory>
+    ensures { IfOk result (λ v. view v ≡ caps_data caps.now) }
+{
+    Ok(
+        json!(in alloc; {"broker": (caps.broker), "cluster": (caps.cluster), "leader": (caps.leader), "version": 1u64})?,
+    )
+}
+
+/// The end of a pump.
+pub fn pumped_value(alloc: Global, done: u32, idle: bool) -> Result<Value, Memory>
+    ensures { IfOk result (λ v. view v ≡ pumped_data done idle) }
+{
+    Ok(json!(in alloc; {"done": done, "idle": idle, "version": 1u64})?)
+}

@@ -1,0 +1,7 @@
+pub mod Digits
+pub mod Framed
+pub mod Leading
+pub mod Lengths
+pub mod Reasons
+pub mod Unique
+pub mod Windows
