@@ -1,0 +1,45 @@
+// Laws of the core, each the contract of a function that does nothing.
+ghost use Rattle.core_laws.specs.Events.{ClosingWasAsked, EndedWorkIsLess, EventsMoveExecutor, ExecutingIsExact, HistoriesKeepCaps, HistoriesShowLists, OnlyPlansRaiseWork, OnlyRequestsMeetExecution, OthersRaiseNone, PlansCanBeLaunched, RefusalsKeepState, StartsKeepCapsInForce, WorkIsThere};
+ghost use Rattle.core_laws.specs.Laws.{EachEventKeeps, EventsKeepTasks, EventsKeepTickets, EventsKeepValid, HistoriesAreSound, MovesKeepTasks, OpeningHasTasks, OpeningIsSound, PlansMeetNoExecution, SettledListsBelong};
+
+/// What holds of every legal history from the opening of a cluster file, after each event: the executor is valid, its brokers are
+/// the file's and so are the members of its lists; at most 16 user tasks are open; at most one plan is being made that is to be
+/// carried out, and none while a task is unfinished; while one is, just one user task is in execution, and else none; each ticket
+/// is out for one job, which is active; and the goals of an active job begin with evacuation.
+///
+/// Each legal event keeps that from any state of which it holds. The list of a partition is the old one, the new one or, while its
+/// task is in flight, both; requests end only after a
+/// Close; and where no event lowered a cap, the caps in force are kept.
+pub fn every_history()
+    ensures opening { OpeningIsSound }
+    ensures keeps { EachEventKeeps }
+    ensures histories { HistoriesAreSound }
+    ensures opens { OpeningHasTasks }
+    ensures moves { MovesKeepTasks }
+    ensures events { EventsKeepTasks }
+    ensures valid { EventsKeepValid }
+    ensures tickets { EventsKeepTickets }
+    ensures plans { PlansMeetNoExecution }
+    ensures settled { SettledListsBelong }
+    ensures lists { HistoriesShowLists }
+    ensures caps { HistoriesKeepCaps }
+    ensures closing { ClosingWasAsked }
+{}
+
+/// What one event does, in any such state: a plan that is to be carried out can be launched; nothing else launches, and each event
+/// does to the executor what one of its own events does, or nothing. So what it starts keeps the caps in force, and nothing else
+/// raises a number of tasks in flight; only a plan raises the work that is left, and the four events that end a lease lower it;
+/// where a task is unfinished and no lease is out, there is work; and a refused event changes nothing. Only
+/// a request is answered that another is in the way, exactly where a task is unfinished or a plan is made to be carried out.
+pub fn every_event()
+    ensures launches { PlansCanBeLaunched }
+    ensures moves { EventsMoveExecutor }
+    ensures starts { StartsKeepCapsInForce }
+    ensures others { OthersRaiseNone }
+    ensures work { OnlyPlansRaiseWork }
+    ensures less { EndedWorkIsLess }
+    ensures there { WorkIsThere }
+    ensures refusals { RefusalsKeepState }
+    ensures requests { OnlyRequestsMeetExecution }
+    ensures executing { ExecutingIsExact }
+{}

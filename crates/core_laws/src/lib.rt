@@ -1,0 +1,6 @@
+//! Laws of the core's definitions, over every legal history.
+#![tactic(auto)]
+
+mod laws;
+
+pub use laws::{every_event, every_history};

@@ -1,0 +1,16 @@
+pub mod Caps
+pub mod Problem
+pub mod Input
+pub mod Same
+pub mod Asked
+pub mod State
+pub mod Jobs
+pub mod Submits
+pub mod Plans
+pub mod Works
+pub mod Shows
+pub mod Step
+pub mod History
+pub mod Faults
+pub mod Sound
+pub mod Examples
