@@ -1,0 +1,245 @@
+"""A cluster file (docs/FORMATS.md) as the tools see it: brokers, partitions with their loads, settings.
+
+What the program refuses isn't found here in full: a file is taken where it has the values that a tool needs.
+"""
+from __future__ import annotations
+
+import json
+import sys
+from dataclasses import dataclass
+
+# The resources, in the order in which a load and a capacity have them.
+RESOURCES = ("CPU", "NW_IN", "NW_OUT", "DISK")
+NO_LIMIT = 2**40 - 1
+
+
+class Fault(Exception):
+    """What a tool says in one line before it ends with status 2."""
+
+
+@dataclass(frozen=True)
+class Ratio:
+    """A threshold as it stands in its text: 0.80 is 80/100, and nothing is reduced."""
+
+    number: int
+    scale: int
+
+    @staticmethod
+    def read(text):
+        whole, _, decimals = str(text).partition(".")
+        return Ratio(int(whole + decimals), 10 ** len(decimals))
+
+    def below_one(self):
+        """As far below 1 as the ratio lies above it, times its scale, or 0."""
+        return max(2 * self.scale - self.number, 0)
+
+
+@dataclass(frozen=True)
+class Broker:
+    id: int
+    rack: str | None
+    state: str
+    capacity: tuple
+
+    @property
+    def is_lost(self):
+        return self.state == "DEAD"
+
+    @property
+    def is_demoted(self):
+        return self.state == "DEMOTED"
+
+
+@dataclass(frozen=True)
+class Partition:
+    topic: str
+    number: int
+    leader: tuple
+    follower: tuple
+
+    @property
+    def name(self):
+        return f"{self.topic}-{self.number}"
+
+
+@dataclass
+class Settings:
+    """The settings that goals read, with their defaults."""
+
+    limits: list
+    balances: list
+    replicas: Ratio
+    leaders: Ratio
+    topics: Ratio
+    max_replicas: int
+
+
+@dataclass
+class Cluster:
+    brokers: list
+    partitions: list
+    lists: list
+    settings: Settings
+    least_leaders: dict
+
+    def broker(self, id):
+        return self.by_id.get(id)
+
+    def __post_init__(self):
+        self.by_id = {broker.id: broker for broker in self.brokers}
+        self.live = [broker for broker in self.brokers if not broker.is_lost]
+        self.topics = list(dict.fromkeys(partition.topic for partition in self.partitions))
+
+    def place_of(self):
+        return {(partition.topic, partition.number): at for at, partition in enumerate(self.partitions)}
+
+
+def read_json(name):
+    """The value of a JSON file; '-' is the standard input."""
+    try:
+        if name == "-":
+            return json.load(sys.stdin)
+        with open(name, encoding="utf-8") as file:
+            return json.load(file)
+    except OSError as fault:
+        raise Fault(f"{name}: {fault.strerror}") from fault
+    except ValueError as fault:
+        raise Fault(f"{name} is no JSON: {fault}") from fault
+
+
+def read_load(load):
+    leader, follower = load.get("leader", {}), load.get("follower", {})
+    return tuple(leader.get(it, 0) for it in RESOURCES), tuple(0 if it == "NW_OUT" else follower.get(it, 0) for it in RESOURCES)
+
+
+def read_capacities(entries):
+    """The capacities by broker, with -1 for all others; without entries nothing is limited."""
+    if entries is None:
+        return {-1: (NO_LIMIT,) * 4}
+    return {int(entry["brokerId"]): tuple(int(str(entry["capacity"][it]).partition(".")[0]) for it in RESOURCES) for entry in entries}
+
+
+def read_broker(value, capacities):
+    capacity = capacities.get(value["id"]) or capacities[-1]
+    return Broker(value["id"], value.get("rack"), value.get("state", "ALIVE"), capacity)
+
+
+def read_settings(config):
+    ratio = lambda name, default: Ratio.read(config.get(name, default))
+    words = ("cpu", "network.inbound", "network.outbound", "disk")
+    return Settings(
+        limits=[ratio(f"{word}.capacity.threshold", "0.80") for word in words],
+        balances=[ratio(f"{word}.balance.threshold", "1.10") for word in words],
+        replicas=ratio("replica.count.balance.threshold", "1.10"),
+        leaders=ratio("leader.replica.count.balance.threshold", "1.10"),
+        topics=ratio("topic.replica.count.balance.threshold", "3.00"),
+        max_replicas=int(config.get("max.replicas.per.broker", 10000)),
+    )
+
+
+def mean_of(loads):
+    """The average of each of the eight numbers, rounded down."""
+    return tuple(tuple(sum(column) // len(loads) for column in zip(*side)) for side in zip(*loads))
+
+
+def accepted(samples, width, keep):
+    """The samples by partition and window, without those that came too late or too many, and the newest window."""
+    kept, newest = {}, None
+    for place, time, load in samples:
+        window = time // width
+        here = kept.setdefault((place, window), [])
+        if newest is not None and window + keep <= newest or len(here) >= 65536:
+            continue
+        here.append(load)
+        newest = window if newest is None else max(newest, window)
+    return kept, newest
+
+
+def window_value(kept, place, window, windows, least):
+    """The average of a window's samples, where there is half of what is wanted; with both windows beside it, where these have it all; else None."""
+    here = kept.get((place, window), [])
+    if len(here) >= (least + 1) // 2:
+        return mean_of(here)
+    before, after = kept.get((place, window - 1), []), kept.get((place, window + 1), [])
+    if window - 1 in windows and window + 1 in windows and len(before) >= least and len(after) >= least:
+        return mean_of(before + here + after)
+    return None
+
+
+def loads_of_samples(samples, config):
+    """The load of each partition that has enough windows with a value, by its place."""
+    setting = lambda name, default: int(config.get(name, default))
+    width, keep = setting("partition.metrics.window.ms", 300000), setting("num.partition.metrics.windows", 5)
+    least, need = setting("min.samples.per.partition.metrics.window", 1), setting("min.valid.windows", 1)
+    kept, newest = accepted(samples, width, keep)
+    if newest is None:
+        return {}
+    windows, loads = range(max(newest + 1 - keep, 0), newest + 1), {}
+    for place in {place for place, _ in kept}:
+        values = [window_value(kept, place, window, windows, least) for window in windows]
+        values = [value for value in values if value is not None]
+        if len(values) >= need:
+            loads[place] = mean_of(values)
+    return loads
+
+
+def cluster_of(value):
+    capacities, config = read_capacities(value.get("brokerCapacities")), value.get("config", {})
+    partitions, lists = [], []
+    for entry in value["partitions"]:
+        partitions.append(Partition(entry["topic"], entry["partition"], *read_load(entry.get("load", {}))))
+        lists.append(list(entry["replicas"]))
+    place_of = {(partition.topic, partition.number): at for at, partition in enumerate(partitions)}
+    samples = [(place_of[it["topic"], it["partition"]], it["time"], read_load(it["load"])) for it in value.get("samples", [])]
+    for place, load in loads_of_samples(samples, config).items():
+        partitions[place] = Partition(partitions[place].topic, partitions[place].number, *load)
+    least = value.get("minTopicLeaders", []) if value["version"] == 2 else []
+    return Cluster(
+        brokers=[read_broker(it, capacities) for it in value["brokers"]],
+        partitions=partitions,
+        lists=lists,
+        settings=read_settings(config),
+        least_leaders={entry["topic"]: entry["leaders"] for entry in least},
+    )
+
+
+def read_cluster(name):
+    value = read_json(name)
+    try:
+        cluster = cluster_of(value)
+        unknown = {id for members in cluster.lists for id in members} - set(cluster.by_id)
+    except (KeyError, TypeError, ValueError, AttributeError) as fault:
+        raise Fault(f"{name} is no cluster file: {type(fault).__name__} {fault}; sumpharu plan tells its first fault") from fault
+    if unknown:
+        raise Fault(f"{name} is no cluster file: no broker has the id {min(unknown)}; sumpharu plan tells its first fault")
+    return cluster
+
+
+def read_plan(name, cluster):
+    """The lists after a plan, that is after Kafka's reassignment JSON: partitions that it doesn't name keep theirs."""
+    value, lists, place_of = read_json(name), list(cluster.lists), cluster.place_of()
+    try:
+        for entry in value["partitions"]:
+            place, members = place_of[entry["topic"], entry["partition"]], list(entry["replicas"])
+            if not members or len(set(members)) < len(members) or not set(members) <= set(cluster.by_id):
+                raise Fault(f"{name}: the replicas of {entry['topic']}-{entry['partition']} are no list of distinct brokers of the cluster file")
+            lists[place] = members
+    except KeyError as fault:
+        raise Fault(f"{name} is no plan for this cluster file: it has no {fault}") from fault
+    except (TypeError, AttributeError) as fault:
+        raise Fault(f"{name} is no plan: {fault}") from fault
+    return lists
+
+
+def run_tool(main):
+    """Runs a tool's main function, which returns its status; a fault is one line and status 2."""
+    try:
+        status = main()
+        sys.stdout.flush()
+    except Fault as fault:
+        print(f"{sys.argv[0].rpartition('/')[2]}: {fault}", file=sys.stderr)
+        status = 2
+    except BrokenPipeError:
+        sys.stderr.close()
+        status = 1
+    sys.exit(status)

@@ -1,0 +1,100 @@
+"""What a plan changes: its moves, what each broker carries before and after, and the goals' measures."""
+from dataclasses import dataclass
+
+import goals
+from clusters import RESOURCES
+
+REPLICAS, LEADERS = "replicas", "leaders"
+# What is shown of a broker: a name, its unit, the goal whose bounds are drawn and the goal whose limit is drawn.
+COLUMNS = (
+    (REPLICAS, "", "ReplicaDistributionGoal", "ReplicaCapacityGoal"),
+    (LEADERS, "", "LeaderReplicaDistributionGoal", None),
+    ("CPU", "%", "CpuUsageDistributionGoal", "CpuCapacityGoal"),
+    ("NW_IN", "KB/s", "NetworkInboundUsageDistributionGoal", "NetworkInboundCapacityGoal"),
+    ("NW_OUT", "KB/s", "NetworkOutboundUsageDistributionGoal", "NetworkOutboundCapacityGoal"),
+    ("DISK", "MB", "DiskUsageDistributionGoal", "DiskCapacityGoal"),
+)
+BY_NAME = {goal.name: goal for goal in goals.GOALS}
+
+
+@dataclass(frozen=True)
+class Change:
+    """A partition whose list changes."""
+
+    partition: object
+    before: list
+    after: list
+
+    @property
+    def added(self):
+        return [id for id in self.after if id not in self.before]
+
+    @property
+    def removed(self):
+        return [id for id in self.before if id not in self.after]
+
+    @property
+    def has_new_leader(self):
+        return self.before[0] != self.after[0]
+
+    @property
+    def megabytes(self):
+        """What is copied: the DISK of each replica that is added."""
+        disk = RESOURCES.index("DISK")
+        return sum((self.partition.leader if id == self.after[0] else self.partition.follower)[disk] for id in self.added)
+
+
+def changes(cluster, after):
+    rows = zip(cluster.partitions, cluster.lists, after)
+    return [Change(partition, before, later) for partition, before, later in rows if before != later]
+
+
+def carried(cluster, lists):
+    """What each broker carries, column by column: {column: {broker: quantity}}."""
+    found = {
+        REPLICAS: goals.quantities(cluster, lists, goals.one, goals.one)[0],
+        LEADERS: goals.quantities(cluster, lists, goals.one, goals.nothing)[0],
+    }
+    for resource, name in enumerate(RESOURCES):
+        found[name] = goals.quantities(cluster, lists, goals.leader_of(resource), goals.follower_of(resource))[0]
+    return found
+
+
+@dataclass(frozen=True)
+class Measured:
+    goal: object
+    before: int
+    after: int
+
+    @property
+    def word(self):
+        if self.after == 0:
+            return "met"
+        if self.after == self.before:
+            return "as before"
+        return "better" if self.after < self.before else "worse"
+
+
+def measures(cluster, after):
+    return [Measured(goal, goal.measure(cluster, cluster.lists), goal.measure(cluster, after)) for goal in goals.GOALS]
+
+
+def rollback(rows):
+    """Kafka's reassignment, as an object, that takes the changes back."""
+    entries = [{"partition": it.partition.number, "replicas": it.before, "topic": it.partition.topic} for it in rows]
+    return {"partitions": entries, "version": 1}
+
+
+def plural(count, word):
+    return f"{count:,} {word}" + ("" if count == 1 else "s")
+
+
+def summary(cluster, rows):
+    """One line that says how much a plan changes."""
+    moved = sum(len(it.added) for it in rows)
+    led = sum(it.has_new_leader for it in rows)
+    copied = sum(it.megabytes for it in rows)
+    return (
+        f"{len(rows):,} of {plural(len(cluster.partitions), 'partition')} change: {plural(moved, 'replica')} "
+        f"{'moves' if moved == 1 else 'move'} ({copied:,} MB), {plural(led, 'leader')} {'changes' if led == 1 else 'change'}"
+    )

@@ -1,0 +1,261 @@
+"""The script sumpharu, run over a tree of its own with a prover that only pretends: 'rt' is a few lines of shell here."""
+import os
+import pathlib
+import shutil
+import signal
+import subprocess
+import sys
+import tempfile
+import time
+import unittest
+
+ROOT = pathlib.Path(__file__).resolve().parents[2]
+
+# What the pretended prover does is told by files in the folder that CONTROL names.
+RT = r"""#!/bin/sh
+control=$CONTROL
+echo "$*" >>"$control/calls"
+case $1 in
+version) cat "$control/version" ;;
+all)
+    echo "== base"; echo "== cc_program"; echo "== summary"
+    [ ! -e "$control/killed" ] || { echo 'base: failed (-9)'; exit 1; }
+    ;;
+run)
+    echo started >>"$control/started"
+    [ ! -e "$control/refuses" ] || { echo 'rt: crates.txt: line 3 is not of the form'; exit 2; }
+    [ ! -e "$control/slow" ] || { sleep 30 & wait $!; }
+    text=$(cat ../../crates/cc_program/src/main.rt)
+    printf '#!/bin/sh\n[ "$2" != nap ] || exec sleep 30\necho "%s: $*"\ncat\nexit ${STATUS-0}\n' "$text" >out/cc_program
+    chmod +x out/cc_program
+    [ ! -e "$control/edits" ] || echo 'edited' >../../crates/cc_program/src/main.rt
+    echo 'rt: running out/cc_program; to give it other input, run that file yourself' >&2
+    exit 2
+    ;;
+esac
+"""
+
+
+class Script(unittest.TestCase):
+    def setUp(self):
+        self.room = pathlib.Path(tempfile.mkdtemp(prefix="sumpharu test "))
+        self.addCleanup(shutil.rmtree, self.room)
+        self.tree = self.room / "a tree"
+        self.control = self.room / "control"
+        for folder in (self.tree / "crates/cc_program/src", self.tree / "crates/base/src", self.control, self.room / "bin"):
+            folder.mkdir(parents=True)
+        for name in ("sumpharu", "docs", "tools"):
+            link = shutil.copytree if (ROOT / name).is_dir() else shutil.copy
+            link(ROOT / name, self.tree / name)
+        (self.tree / "crates.txt").write_text("# crates\nbase: thiserror\ncc_program: base serde_json\nother: base\n")
+        (self.tree / "HANDLES").write_text("Handles allowed: none.\n")
+        (self.tree / "crates/base/src/lib.rt").write_text("base\n")
+        self.write("one")
+        self.cluster = self.room / "cluster.json"
+        self.cluster.write_text("{}")
+        (self.control / "version").write_text("kit 1\n")
+        rt = self.room / "bin/rt"
+        rt.write_text(RT)
+        rt.chmod(0o755)
+
+    def write(self, text):
+        (self.tree / "crates/cc_program/src/main.rt").write_text(text + "\n")
+
+    def start(self, *words, script=None, prover=True, status=0, cwd=None):
+        path = f"{os.path.dirname(sys.executable)}:/usr/bin:/bin"
+        path = f"{self.room}/bin:{path}" if prover else path
+        env = {"PATH": path, "CONTROL": str(self.control), "STATUS": str(status)}
+        how = {"stdin": subprocess.PIPE, "stdout": subprocess.PIPE, "stderr": subprocess.PIPE, "text": True}
+        return subprocess.Popen([script or self.tree / "sumpharu", *words], env=env, cwd=cwd or self.room, **how)
+
+    def run_script(self, *words, given="", **how):
+        ran = self.start(*words, **how)
+        out, err = ran.communicate(given, timeout=60)
+        return ran.returncode, out, err
+
+    def plan(self, **how):
+        return self.run_script("plan", str(self.cluster), **how)
+
+    def calls(self, verb):
+        file = self.control / "calls"
+        return sum(line.startswith(verb) for line in file.read_text().splitlines()) if file.exists() else 0
+
+    def until(self, holds):
+        for _ in range(1200):
+            if holds():
+                return
+            time.sleep(0.05)
+        self.fail("it never came to that")
+
+    def wait_for(self, name):
+        self.until(lambda: (self.control / name).exists())
+
+    def test_builds_once_and_after_each_change(self):
+        code, out, err = self.plan(given="input")
+        self.assertEqual((code, out), (0, f"one: plan {self.cluster}\ninput"))
+        self.assertIn("sumpharu: checked 1 of 2: base\nsumpharu: checked 2 of 2: cc_program\n", err)
+        self.assertEqual(self.plan()[2], "")
+        self.assertEqual(self.calls("run"), 1)
+        # a source that is older than the program
+        self.write("two")
+        os.utime(self.tree / "crates/cc_program/src/main.rt", (0, 0))
+        self.assertTrue(self.plan()[1].startswith("two:"))
+        changes = [
+            lambda: (self.tree / "crates.txt").write_text("cc_program: base\nbase:\n"),
+            lambda: (self.tree / "HANDLES").write_text("Handles allowed: Net.\n"),
+            lambda: (self.control / "version").write_text("kit 2\n"),
+            lambda: (self.tree / "crates/base/src/lib.rt").rename(self.tree / "crates/base/src/mod.rt"),
+            lambda: (self.tree / "crates/cc_program/out/cc_program").write_text("#!/bin/sh\necho other\n"),
+        ]
+        for number, change in enumerate(changes):
+            change()
+            self.assertTrue(self.plan()[1].startswith("two:"))
+            self.assertEqual(self.calls("run"), 3 + number)
+
+    def test_a_failed_build_runs_nothing(self):
+        self.plan()
+        self.write("two")
+        (self.control / "refuses").touch()
+        for _ in range(2):
+            code, out, err = self.plan()
+            self.assertEqual((code, out), (1, ""))
+            self.assertIn("rt: crates.txt: line 3", err)
+            self.assertIn("the build failed, and nothing was run", err)
+        (self.control / "refuses").unlink()
+        self.assertTrue(self.plan()[1].startswith("two:"))
+
+    def test_an_edit_during_the_build_runs_nothing(self):
+        (self.control / "edits").touch()
+        code, out, err = self.plan()
+        self.assertEqual((code, out), (1, ""))
+        self.assertIn("a source changed while the program was built", err)
+        (self.control / "edits").unlink()
+        self.assertTrue(self.plan()[1].startswith("edited:"))
+
+    def test_a_check_killed_for_memory_is_left_to_the_build(self):
+        (self.control / "killed").touch()
+        self.assertEqual(self.plan()[0], 0)
+
+    def test_two_runs_build_once(self):
+        (self.control / "slow").touch()
+        first = self.start("plan", str(self.cluster))
+        self.wait_for("started")
+        second = self.start("plan", str(self.cluster))
+        self.until(lambda: any(words == b"flock\x009\x00" for _, words in self.processes()))
+        (self.control / "slow").unlink()
+        self.end_sleep()
+        for ran in (first, second):
+            out, err = ran.communicate(timeout=60)
+            self.assertEqual((ran.returncode, out), (0, f"one: plan {self.cluster}\n"), err)
+        self.assertIn("waiting for another build", err)
+        self.assertEqual(self.calls("run"), 1)
+
+    def processes(self):
+        """The processes of this test's own tree: those whose environment names its control folder."""
+        found = []
+        for folder in pathlib.Path("/proc").glob("[0-9]*"):
+            try:
+                if f"CONTROL={self.control}\0".encode() in (folder / "environ").read_bytes():
+                    found.append((int(folder.name), (folder / "cmdline").read_bytes()))
+            except OSError:
+                pass
+        return found
+
+    def end_sleep(self):
+        for process, words in self.processes():
+            if words.startswith(b"sleep"):
+                os.kill(process, signal.SIGTERM)
+
+    def test_a_killed_build_ends_what_it_started(self):
+        for number in (signal.SIGTERM, signal.SIGINT, signal.SIGHUP, signal.SIGKILL):
+            (self.control / "slow").touch()
+            ran = self.start("plan", str(self.cluster))
+            self.wait_for("started")
+            (self.control / "started").unlink()
+            os.kill(ran.pid, number)
+            ran.wait(timeout=60)
+            self.assertEqual(ran.returncode, -9 if number == signal.SIGKILL else 128 + number)
+            self.until(lambda: not any(b"/rt\0" in words for _, words in self.processes()))
+            self.end_sleep()
+            ran.communicate()
+        (self.control / "slow").unlink()
+        self.assertEqual(self.plan()[0], 0)
+
+    def test_a_killed_run_ends_the_program(self):
+        self.plan()
+        for number in (signal.SIGTERM, signal.SIGINT, signal.SIGHUP):
+            ran = self.start("plan", "nap")
+            naps = lambda: any(words.startswith(b"sleep") for _, words in self.processes())
+            self.until(naps)
+            os.kill(ran.pid, number)
+            ran.communicate(timeout=60)
+            self.assertEqual(ran.returncode, 128 + number)
+            self.assertFalse(naps())
+
+    def test_places(self):
+        link = self.room / "bin/on-the-path"
+        link.symlink_to(self.tree / "sumpharu")
+        self.assertEqual(self.run_script("plan", "cluster.json", script=link)[:2], (0, "one: plan cluster.json\n"))
+        self.assertEqual(self.run_script("plan", "cluster.json", script="on-the-path")[0], 0)
+        self.assertEqual(self.run_script("plan", "x", script="../sumpharu", cwd=self.tree / "docs")[:2], (0, "one: plan x\n"))
+
+    def test_no_prover(self):
+        code, out, err = self.plan(prover=False)
+        self.assertEqual((code, out), (1, ""))
+        self.assertEqual(err, "sumpharu: rt, the prover's command, isn't on the path, and the program has to be built with it\n")
+        self.plan()
+        self.assertEqual(self.plan(prover=False)[:2], (0, f"one: plan {self.cluster}\n"))
+
+    def test_read_only(self):
+        out = self.tree / "crates/cc_program/out"
+        out.write_text("a file where the folder would be, which root can't write either")
+        code, _, err = self.plan()
+        self.assertEqual(code, 1)
+        self.assertEqual(err, f"sumpharu: the program has to be built, and '{out}' can't be written\n")
+
+    def test_no_build_for_help_and_faulty_words(self):
+        text = (ROOT / "docs/help.txt").read_text()
+        for words in (["help"], ["--help"], ["-h"], ["help", "else"], ["other", "--help"]):
+            self.assertEqual(self.run_script(*words, prover=False), (0, text, ""))
+        self.assertEqual(self.run_script("--version", prover=False)[1], (ROOT / "docs/version.txt").read_text())
+        for words in (["help", "check"], ["check", "--help"], ["check", "a", "-h"]):
+            code, out, _ = self.run_script(*words, prover=False)
+            self.assertEqual(code, 0)
+            self.assertTrue(out.startswith("usage: sumpharu check FILE TRACE "))
+            self.assertIn("\ncheck FILE TRACE\n", out)
+            self.assertNotIn("sumpharu plan", out)
+        for words, hint in (([], "the commands are"), (["plam", "x"], "the commands are"), (["plan apply", "x"], "the commands are"), (["plan"], "help plan'")):
+            code, out, err = self.run_script(*words, prover=False)
+            self.assertEqual((code, out), (2, ""))
+            self.assertTrue(err.startswith("usage error\nsumpharu: "))
+            self.assertIn(hint, err)
+
+    def test_hints(self):
+        bad = self.room / "bad.json"
+        bad.write_text('{"version": 1,\n "brokers": ]}')
+        large = self.room / "large"
+        with open(large, "wb") as file:
+            file.truncate(67108865)
+        good = str(self.cluster)
+        rows = [
+            (2, ["plan", good], "sumpharu: the arguments of 'plan' and their order: "),
+            (3, ["plan", str(bad)], "sumpharu: a plain JSON reader stops at line 2, column 13: Expecting value\n"),
+            (3, ["plan", good], "sumpharu: docs/FORMATS.md, 'Refusals', "),
+            (4, ["plan", good], "tools/explain "),
+            (5, ["plan", "/none"], "sumpharu: there is no file '/none'\n"),
+            (5, ["plan", str(self.room)], f"sumpharu: '{self.room}' is a folder\n"),
+            (5, ["plan", str(large)], f"sumpharu: '{large}' has more than 67108864 bytes\n"),
+            (5, ["check", good, "/none"], "sumpharu: there is no file '/none'\n"),
+            (0, ["plan", good], ""),
+            (7, ["plan", good], ""),
+        ]
+        self.plan()
+        for status, words, hint in rows:
+            code, _, err = self.run_script(*words, status=status)
+            self.assertEqual(code, status)
+            self.assertIn(hint, err)
+            self.assertEqual(err == "", hint == "", err)
+
+
+if __name__ == "__main__":
+    unittest.main()

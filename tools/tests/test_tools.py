@@ -1,0 +1,267 @@
+"""The tools, run as a user runs them."""
+import json
+import os
+import pathlib
+import subprocess
+import tempfile
+import unittest
+
+ROOT = pathlib.Path(__file__).resolve().parents[2]
+DESCRIBED = """Topic: orders\tTopicId: 0kZ\tPartitionCount: 2\tReplicationFactor: 2\tConfigs: segment.bytes=1
+\tTopic: orders\tPartition: 0\tLeader: 2\tReplicas: 1,2\tIsr: 1,2\tElr: \tLastKnownElr: \tAdding Replicas: 2\tRemoving Replicas:
+\tTopic: orders\tPartition: 1\tLeader: none\tReplicas: 3,1\tIsr: 3
+Topic: audit  PartitionCount: 1  ReplicationFactor: 1  Configs:
+  Topic: audit  Partition: 0  Leader: 1  Replicas: 1  Isr: 1
+"""
+CAPACITIES = {
+    "brokerCapacities": [
+        {"brokerId": "-1", "capacity": {"DISK": "1000", "CPU": "100", "NW_IN": "10", "NW_OUT": "20.7"}, "doc": "others"},
+        {"brokerId": "3", "rack": "b", "capacity": {"DISK": {"/a": "300", "/b": "400.0"}, "CPU": {"num.cores": "8"}, "NW_IN": "1", "NW_OUT": "2"}},
+        {"brokerId": "9", "rack": "a", "capacity": {"DISK": "5", "CPU": "100", "NW_IN": "10", "NW_OUT": "20"}},
+    ]
+}
+STATE = {
+    "KafkaBrokerState": {"ReplicaCountByBrokerId": {"0": 1, "1": 2, "2": 0}},
+    "KafkaPartitionState": {
+        "offline": [],
+        "urp": [{"topic": "t", "partition": 1, "leader": 1, "replicas": [1, 0], "in-sync": [1]}],
+        "under-min-isr": [{"topic": "t", "partition": 1, "leader": 1, "replicas": [1, 0], "in-sync": [1]}],
+        "other": [{"topic": "t", "partition": 0, "leader": 1, "replicas": [1], "in-sync": [1]}],
+    },
+    "version": 1,
+}
+LOAD = {
+    "brokers": [
+        {"Broker": 0, "Rack": "a", "BrokerState": "DEAD", "DiskCapacityMB": 500.5, "NetworkInCapacity": 60.0, "NetworkOutCapacity": 70.0},
+        {"Broker": 1, "Rack": "b", "BrokerState": "BAD_DISKS", "DiskCapacityMB": 500.5, "NetworkInCapacity": 60.0, "NetworkOutCapacity": 70.0},
+        {"Broker": 2, "Rack": "b", "BrokerState": "NEW", "DiskCapacityMB": 500.5, "NetworkInCapacity": 60.0, "NetworkOutCapacity": 70.0},
+    ],
+    "version": 1,
+}
+PLAN = {
+    "version": 1,
+    "partitions": [
+        {"topic": "orders", "partition": 0, "replicas": [105, 102, 103]},
+        {"topic": "orders", "partition": 2, "replicas": [106, 105, 102]},
+        {"topic": "payments", "partition": 1, "replicas": [106, 101, 103]},
+    ],
+}
+
+
+class Tools(unittest.TestCase):
+    maxDiff = None
+
+    def setUp(self):
+        room = tempfile.TemporaryDirectory()
+        self.addCleanup(room.cleanup)
+        self.room = pathlib.Path(room.name)
+
+    def file(self, name, value):
+        path = self.room / name
+        path.write_text(value if isinstance(value, str) else json.dumps(value))
+        return str(path)
+
+    def tool(self, name, *words, given=None):
+        how = {"input": given, "capture_output": True, "text": True, "cwd": ROOT, "timeout": 60}
+        ran = subprocess.run([ROOT / "tools" / name, *words], **how)
+        return ran.returncode, ran.stdout, ran.stderr
+
+    def test_help_and_errors_are_short(self):
+        for name in ("from-kafka", "show-plan", "explain", "json-place"):
+            code, out, err = self.tool(name, "--help")
+            self.assertEqual((code, err), (0, ""))
+            self.assertIn(f"usage: {name} ", out)
+            code, out, err = self.tool(name)
+            self.assertEqual((code, out, err.count("\n")), (2, "", 1), name)
+        bad = self.file("bad", "{")
+        good = self.file("good", PLAN)
+        zones = "examples/three-zones.json"
+        rows = [
+            ("show-plan", zones, "/none"),
+            ("show-plan", zones, bad),
+            ("show-plan", zones, self.file("twice", {"partitions": [{"topic": "orders", "partition": 0, "replicas": [101, 101]}]})),
+            ("show-plan", zones, self.file("list", [1])),
+            ("show-plan", "examples/three-brokers.json", good),
+            ("show-plan", good, good),
+            ("show-plan", zones, good, "--htm"),
+            ("explain", zones, "RackGoal"),
+            ("explain", self.file("unknown", {"version": 1, "brokers": [], "partitions": [{"topic": "t", "partition": 0, "replicas": [1]}]})),
+            ("from-kafka", "--describe", good),
+            ("from-kafka", "--describe", bad, "--load", bad),
+            ("from-kafka", "--cluster-state", good),
+            ("from-kafka", "--cluster-state", self.file("state", STATE), "--state", "7=DEAD"),
+            ("from-kafka", "--cluster-state", self.file("state", STATE), "--state", "1=LOST"),
+            ("from-kafka", "--cluster-state", self.file("state", STATE), "--load", good),
+        ]
+        for words in rows:
+            code, out, err = self.tool(*words)
+            self.assertEqual((code, out, err.count("\n")), (2, "", 1), words)
+            self.assertTrue(err.startswith(f"{words[0]}: "), err)
+
+    def test_shows_a_plan(self):
+        code, out, err = self.tool("show-plan", "examples/three-zones.json", "-", given=json.dumps(PLAN))
+        self.assertEqual((code, err), (0, ""))
+        first, _, *lines = out.splitlines()
+        self.assertEqual(first, "2 of 8 partitions change: 1 replica moves (0 MB), 2 leaders change")
+        cells = [line.split() for line in lines]
+        self.assertIn(["orders-0", "101,102,103", "105,102,103", "101", "105", "0", "101", "->", "105"], cells)
+        self.assertIn(["orders-2", "105,106,102", "106,105,102", "-", "-", "0", "105", "->", "106"], cells)
+        self.assertIn(["101", "zone-a", "ALIVE", "6", "->", "5", "2", "->", "1", "0", "0", "0", "0"], cells)
+        self.assertIn(["RackAwareGoal", "hard", "4", "3", "better"], cells)
+        self.assertNotIn("payments-1", out)
+
+    def test_counts_what_is_copied(self):
+        loads = {"leader": {"DISK": 1000}, "follower": {"DISK": 900}}
+        value = {"version": 1, "brokers": [{"id": id} for id in (1, 2, 3, 4)], "partitions": [{"topic": "t", "partition": 0, "replicas": [1, 2], "load": loads}]}
+        plan = {"partitions": [{"topic": "t", "partition": 0, "replicas": [3, 4]}]}
+        out = self.tool("show-plan", self.file("c", value), self.file("p", plan))[1]
+        self.assertTrue(out.startswith("1 of 1 partition change: 2 replicas move (1,900 MB), 1 leader changes\n"), out)
+
+    def test_takes_a_plan_back(self):
+        zones = ROOT / "examples/three-zones.json"
+        plan = self.file("plan", PLAN)
+        code, out, _ = self.tool("show-plan", zones, plan, "--rollback")
+        back = '{"partitions":[{"partition":0,"replicas":[101,102,103],"topic":"orders"},{"partition":2,"replicas":[105,106,102],"topic":"orders"}],"version":1}\n'
+        self.assertEqual((code, out), (0, back))
+        value = json.loads(zones.read_text())
+        for it in value["partitions"]:
+            moved = [new["replicas"] for new in PLAN["partitions"] if (new["topic"], new["partition"]) == (it["topic"], it["partition"])]
+            it["replicas"] = moved[0] if moved else it["replicas"]
+        code, out, _ = self.tool("show-plan", self.file("after", value), self.file("back", back), "--rollback")
+        forth = [it for it in PLAN["partitions"] if it["topic"] == "orders"]
+        self.assertEqual(json.loads(out)["partitions"], forth)
+
+    def test_writes_a_page(self):
+        value = {
+            "version": 1,
+            "brokers": [{"id": 7, "rack": "<a>"}, {"id": 8, "state": "DEAD"}],
+            "brokerCapacities": [{"brokerId": "-1", "capacity": {"DISK": "100", "CPU": "0", "NW_IN": "10", "NW_OUT": "10"}}],
+            "partitions": [{"topic": "t", "partition": 0, "replicas": [8], "load": {"leader": {"DISK": 90, "CPU": 5}}}],
+        }
+        plan = {"partitions": [{"topic": "t", "partition": 0, "replicas": [7]}]}
+        code, out, err = self.tool("show-plan", self.file("c", value), self.file("p", plan), "--html")
+        self.assertEqual((code, err), (0, ""))
+        for part in ("rack &lt;a&gt;, 1 broker<", "<del>8</del>", "<ins>7</ins>", "0 → <strong>90</strong>", "above 80", "above 0", "DEAD"):
+            self.assertIn(part, out)
+        for part in ("<script", "http", "src=", "<a>", "@import", "url("):
+            self.assertNotIn(part, out)
+
+    def test_explains(self):
+        code, out, _ = self.tool("explain", "examples/too-few-racks.json", "EvacuationGoal", "RackAwareGoal")
+        self.assertEqual(code, 1)
+        lines = [
+            "EvacuationGoal: met",
+            "RackAwareGoal: not met, measure 2",
+            "  audit-0: 3 replicas on 2 racks: dc-1 has brokers 1, 2",
+            "  audit-2: 2 replicas on 1 rack: dc-2 has brokers 3, 4",
+            "  no plan meets it: a partition has 3 replicas, and the brokers that aren't lost stand on 2 racks",
+        ]
+        self.assertEqual(out.splitlines(), lines)
+        load = {"leader": {"DISK": 70, "NW_OUT": 9}, "follower": {"DISK": 70}}
+        value = {
+            "version": 2,
+            "brokers": [{"id": 1}, {"id": 2}, {"id": 3, "state": "DEAD"}, {"id": 4, "state": "DEMOTED"}],
+            "brokerCapacities": [{"brokerId": "-1", "capacity": {"DISK": "100", "CPU": "100", "NW_IN": "10", "NW_OUT": "10"}}],
+            "partitions": [{"topic": "t", "partition": n, "replicas": [1, 3], "load": load} for n in range(2)],
+            "config": {"max.replicas.per.broker": 1, "disk.capacity.threshold": "0.85"},
+            "minTopicLeaders": [{"topic": "t", "leaders": 2}, {"topic": "u", "leaders": 9}],
+        }
+        code, out, _ = self.tool("explain", self.file("c", value))
+        self.assertEqual(code, 1)
+        for line in (
+            "  t-0: 1 replica on lost brokers: 3",
+            "  topic t on broker 2: leads 0 partitions, 2 below the 2 of minTopicLeaders",
+            "  no plan meets it: the brokers that may lead, 2 in all, owe 4 leaders of topic t, which has 2 partitions",
+            "  broker 1: 2 replicas, 1 above max.replicas.per.broker = 1",
+            "  no plan meets it: all brokers that aren't lost may hold 3 replicas together, and there are 4",
+            "  broker 1: DISK 140, 55 above 85 (disk.capacity.threshold 0.85 of its capacity 100)",
+            "  no plan meets it: all brokers that aren't lost may carry 255 of DISK together, and the load is 280",
+            "  broker 1: NW_OUT 18, 10 above 8 (network.outbound.capacity.threshold 0.8 of its capacity 10)",
+        ):
+            self.assertIn(line, out.splitlines())
+        value["brokers"][2]["rack"], value["brokers"][0]["rack"], value["brokers"][1]["rack"] = "b", "a", "a"
+        del value["brokers"][3]
+        lines = [
+            "RackAwareGoal: met, but not once nothing is left on lost brokers",
+            "  no plan meets it: a partition has 2 replicas, and the brokers that aren't lost stand on 1 rack",
+        ]
+        code, out, _ = self.tool("explain", self.file("r", value), "RackAwareGoal")
+        self.assertEqual((code, out.splitlines()), (1, lines))
+        value["brokers"].append({"id": 4, "state": "DEMOTED"})
+        plan = {"partitions": [{"topic": "t", "partition": n, "replicas": [n + 1, 4]} for n in range(2)]}
+        self.assertEqual(self.tool("explain", self.file("c", value), "--plan", self.file("p", plan), "EvacuationGoal")[:2], (0, "EvacuationGoal: met\n"))
+
+    def test_makes_a_file_of_what_kafka_says(self):
+        words = ("--describe", "-", "--capacity", self.file("capacity", CAPACITIES), "--state", "2=DEAD", "--state", "9=NEW")
+        code, out, err = self.tool("from-kafka", *words, given=DESCRIBED)
+        self.assertEqual(code, 0)
+        self.assertIn("on these brokers, which were named beside the partitions: 9\n", err)
+        self.assertIn("partitions that another replica leads than their first, which the file takes as the leader: 1\n", err)
+        self.assertIn("partitions that are being reassigned just now, of which the file has all replicas: 1\n", err)
+        disk = lambda disk, into, out: {"DISK": disk, "CPU": "100", "NW_IN": into, "NW_OUT": out}
+        wanted = {
+            "version": 1,
+            "brokers": [{"id": 1}, {"id": 2, "state": "DEAD"}, {"id": 3, "rack": "b"}, {"id": 9, "rack": "a", "state": "NEW"}],
+            "brokerCapacities": [
+                {"brokerId": "-1", "capacity": disk("1000", "10", "20")},
+                {"brokerId": "3", "capacity": disk("700", "1", "2")},
+                {"brokerId": "9", "capacity": disk("5", "10", "20")},
+            ],
+            "partitions": [
+                {"topic": "audit", "partition": 0, "replicas": [1]},
+                {"topic": "orders", "partition": 0, "replicas": [1, 2]},
+                {"topic": "orders", "partition": 1, "replicas": [3, 1]},
+            ],
+        }
+        self.assertEqual(json.loads(out), wanted)
+
+    def test_the_examples_of_kafka_make_a_file(self):
+        code, out, err = self.tool("from-kafka", "--describe", "examples/topics.txt", "--capacity", "examples/capacity.json")
+        self.assertEqual((code, err), (0, ""))
+        value = json.loads(out)
+        self.assertEqual(value["brokers"], [{"id": 1, "rack": "zone-a"}, {"id": 2, "rack": "zone-a"}, {"id": 3, "rack": "zone-b"}])
+        self.assertEqual(value["brokerCapacities"][1]["capacity"], {"CPU": "100", "NW_IN": "50000", "NW_OUT": "50000", "DISK": "600000"})
+        self.assertEqual(self.tool("explain", "-", "RackAwareGoal", given=out)[1].splitlines()[0], "RackAwareGoal: not met, measure 2")
+
+    def test_makes_a_file_of_what_cruise_control_says(self):
+        code, out, err = self.tool("from-kafka", "--cluster-state", self.file("state", STATE), "--load", self.file("load", LOAD))
+        self.assertEqual(code, 0)
+        self.assertIn("broker 1 is BAD_DISKS, which a cluster file doesn't know", err)
+        capacity = {"DISK": "500", "CPU": "100", "NW_IN": "60", "NW_OUT": "70"}
+        wanted = {
+            "version": 1,
+            "brokers": [{"id": 0, "rack": "a", "state": "DEAD"}, {"id": 1, "rack": "b"}, {"id": 2, "rack": "b", "state": "NEW"}],
+            "brokerCapacities": [{"brokerId": str(id), "capacity": capacity} for id in range(3)],
+            "partitions": [{"topic": "t", "partition": 0, "replicas": [1]}, {"topic": "t", "partition": 1, "replicas": [1, 0]}],
+        }
+        self.assertEqual(json.loads(out), wanted)
+        code, _, err = self.tool("from-kafka", "--cluster-state", self.file("state", STATE), "--capacity", self.file("capacity", CAPACITIES))
+        self.assertEqual(code, 0)
+        few = {"brokerCapacities": CAPACITIES["brokerCapacities"][1:]}
+        code, _, err = self.tool("from-kafka", "--cluster-state", self.file("state", STATE), "--capacity", self.file("few", few))
+        self.assertEqual((code, err), (2, "from-kafka: no capacity is known of broker 0: give an entry for it, or one for all others, in --capacity\n"))
+
+    def test_manual_and_completion_are_those_of_the_help(self):
+        self.assertEqual(self.tool("make-manual", "--check"), (0, "", ""))
+        page = (ROOT / "docs/sumpharu.1").read_text()
+        self.assertIn("\n.B check FILE TRACE\nsays whether a planner\\(aqs trace is good", page)
+        rows = [
+            (["pl"], "plan"),
+            (["--"], "--help --version"),
+            (["help", ""], "apply check plan"),
+            (["check", "examples/three-brokers.t"], "examples/three-brokers.trace.json"),
+            (["check", "a", "examples/three-brokers.t"], "examples/three-brokers.trace.json"),
+            (["plan", "a", ""], "--goals"),
+            (["plan", "a", "--goals", "R"], "RackAwareGoal"),
+            (["check", "a", "b", "--goals", "RackAwareGoal", "-"], "--skip-hard-goal-check"),
+            (["plan", "a", "--goals", "RackAwareGoal", "--skip-hard-goal-check", ""], ""),
+            (["plam", ""], ""),
+        ]
+        for words, wanted in rows:
+            line = 'source docs/sumpharu.bash; COMP_WORDS=("$@"); COMP_CWORD=$(($# - 1)); _sumpharu; printf "%s\\n" "${COMPREPLY[@]}" | sort | xargs'
+            ran = subprocess.run(["bash", "-c", line, "bash", "sumpharu", *words], cwd=ROOT, capture_output=True, text=True)
+            self.assertEqual((ran.stdout.strip(), ran.stderr), (wanted, ""), words)
+
+
+if __name__ == "__main__":
+    unittest.main()
