@@ -358,5 +358,5 @@ impl Goal for MinTopicLeadersPerBrokerGoal {
 
     ghost rooms_decide = { λ _ _ _ _ _ _. tt };
 
-    ghost small_weights = { λ _ _ _. tt };
+    ghost rooms_stay = { λ _ _ _ _ _ _ _ _ _ _ _. free };
 }
