@@ -5,3 +5,4 @@ pub mod RowLemmas
 pub mod OrderLemmas
 pub mod Complete
 pub mod LeadLemmas
+pub mod SwapLemmas

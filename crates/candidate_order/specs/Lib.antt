@@ -4,3 +4,4 @@ pub mod Kinds
 pub mod Laws
 pub mod Looks
 pub mod Order
+pub mod Scan

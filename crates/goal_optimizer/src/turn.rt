@@ -5,7 +5,7 @@ ghost use Rattle.plan_terms.specs.Belongs.{IsBookOf};
 ghost use Rattle.plan_terms.specs.Effect.{after_all};
 ghost use Rattle.plan_terms.specs.Trace.{Turn};
 
-use candidate_order::next_lessening;
+use candidate_order::plain_next;
 use load_model::{Case, LoadBook, Memory};
 use move_actions::{Actions, Goal, Moves, measure};
 use std::alloc::Global;
@@ -28,7 +28,7 @@ pub fn take_turn<G: Goal>(
 {
     let mut actions = Actions::new(alloc);
     'scan: while measure(goal, case, book) > 0 {
-        let next = next_lessening(alloc, case, book, earlier, goal)?;
+        let next = plain_next(alloc, case, book, earlier, goal)?;
         match next {
             None => return Ok(actions),
             Some(action) => {

@@ -1,5 +1,5 @@
 use Rattle.candidate_order.proofs.Candidates.{NoneLeft-kinds}
-use Rattle.candidate_order.proofs.scan.next_lessening.Goals as goal
+use Rattle.candidate_order.proofs.plain.plain_next.Goals as goal
 
 pub returns : goal.returns
 returns g c =

@@ -5,8 +5,8 @@ use Rattle.std.proofs.lemmas.List.Elements.{All-more}
 use Rattle.plan_terms.specs.Trace.{IsUnhelpful}
 use Rattle.plan_terms.proofs.EffectLemmas.{fits-legal, targets_known-legal}
 use Rattle.plan_terms.specs.declared.actions.Action.TheVariants.{Move}
-use Rattle.candidate_order.proofs.scan.first_step.Goals as goal
-use Rattle.candidate_order.proofs.scan.first_step.Goals.{else-lessens-via-then-lessens+else-all_accept, else-lessens-via-else-lessens}
+use Rattle.candidate_order.proofs.plain.first_step.Goals as goal
+use Rattle.candidate_order.proofs.plain.first_step.Goals.{else-lessens-via-then-lessens+else-all_accept, else-lessens-via-else-lessens}
 
 pub all_accept-requires-clause-applies : goal.all_accept-requires-clause-applies
 all_accept-requires-clause-applies g c = fits-legal c.args.case.now c.args.book.now.lists _ (c.requires.legal c.loop-action.action-index (Move 0 0 0) c.loop-action-test.true)

@@ -1,7 +1,7 @@
 use Rattle.std.proofs.Common.{refl}
 use Rattle.std.proofs.lemmas.Bool.{false≢true}
 use Rattle.plan_terms.proofs.Runs.{AllAccept-none, AllAccept-more, AllAccept-all, AllAccept-at}
-use Rattle.candidate_order.proofs.scan.all_accept.Goals as goal
+use Rattle.candidate_order.proofs.plain.all_accept.Goals as goal
 
 pub loop-goal-init : goal.loop-goal-init
 loop-goal-init g c = AllAccept-none (λ x. g.G.Goal.meaning x c.args.case.now) c.args.earlier.now c.args.book.now.lists c.args.action

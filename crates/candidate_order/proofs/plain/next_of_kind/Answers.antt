@@ -4,7 +4,7 @@ use Rattle.std.proofs.lemmas.List.Elements.{filter_passes}
 use Rattle.plan_terms.specs.Trace.{IsUnhelpful}
 use Rattle.candidate_order.specs.Kinds.{candidates_of}
 use Rattle.candidate_order.proofs.Candidates.{more_below}
-use Rattle.candidate_order.proofs.scan.next_of_kind.Goals as goal
+use Rattle.candidate_order.proofs.plain.next_of_kind.Goals as goal
 
 pub first_step-requires-clause-legal : goal.first_step-requires-clause-legal
 first_step-requires-clause-legal g c =

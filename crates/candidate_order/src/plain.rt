@@ -104,7 +104,7 @@ fn next_of_kind<G: Goal>(
 
 /// The first legal action, in the order of [`all_actions`](move_actions::all_actions), that each earlier goal accepts and
 /// that lessens the goal. `None` comes exactly where there is none.
-pub fn next_lessening<G: Goal>(
+pub fn plain_next<G: Goal>(
     alloc: Global,
     case: &Case,
     book: &LoadBook,
