@@ -6,3 +6,5 @@ pub mod OrderLemmas
 pub mod Complete
 pub mod LeadLemmas
 pub mod SwapLemmas
+pub mod RankLemmas
+pub mod TurnLemmas

@@ -8,6 +8,7 @@ mod looks;
 mod nexts;
 mod order;
 mod plain;
+mod ranks;
 mod rows;
 mod swaps;
 mod trades;
@@ -17,7 +18,7 @@ pub use laws::{candidates_are_all, filters_keep_the_first, moves_come_first, rep
 pub use leads::first_lead;
 pub use looks::{all_give, all_pass, rooms_of, weights_of, wholes_of};
 pub use nexts::next_in;
-pub use order::{Order, Ranked};
+pub use order::Order;
 pub use plain::{Kind, all_accept, plain_next};
 pub use rows::first_to;
 pub use swaps::first_swap;

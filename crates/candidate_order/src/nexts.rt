@@ -11,7 +11,8 @@ ghost use Rattle.plan_terms.specs.Trace.{Step};
 
 use crate::kept::{Row, Scan, column};
 use crate::leads::first_lead;
-use crate::order::{Order, is_first};
+use crate::order::Order;
+use crate::ranks::is_first;
 use crate::plain::Kind;
 use crate::rows::first_to;
 use crate::swaps::first_swap;

@@ -14,7 +14,8 @@ ghost use Rattle.plan_terms.specs.Trace.{Step};
 ghost use Rattle.plan_terms.specs.declared.actions.Action.{Action};
 
 use crate::kept::{PartWeights, Row, Scan, column};
-use crate::order::{Order, is_first};
+use crate::order::Order;
+use crate::ranks::is_first;
 use crate::trades::trade_serves;
 use load_model::{Case, LoadBook};
 use move_actions::{Action, Goal, Heat};
