@@ -8,3 +8,4 @@ pub mod LeadLemmas
 pub mod SwapLemmas
 pub mod RankLemmas
 pub mod TurnLemmas
+pub mod KindLemmas

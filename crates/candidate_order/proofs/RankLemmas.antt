@@ -1,8 +1,8 @@
 -- Rows in order: what comes and what goes.
 use Rattle.std.specs.Prelude.{◌⊎◌, ◌==◌, ◌||◌, ◌&&◌, not, nat_lt, nat_le, Bool, IsTrue}
-use Rattle.std.proofs.Common.{◌≡◌, ℕ, ◌<◌, ◌≤◌, ◌++◌, true, false, List, [], ◌∷◌, zero, suc, length, get_or, take, drop, refl, ap, ◌∙◌, sym, arith, inl, inr, eq-eqb}
+use Rattle.std.proofs.Common.{◌≡◌, ℕ, ◌+◌, ◌<◌, ◌≤◌, ◌++◌, true, false, List, [], ◌∷◌, zero, suc, length, get_or, take, drop, refl, ap, ◌∙◌, sym, arith, inl, inr, eq-eqb}
 use Rattle.std.specs.List.{All, filter, insert, remove}
-use Rattle.std.proofs.lemmas.Bool.{cases_Bool, cases_eq, cases_lt, ne_eqb, false≢true, eqb-true, leb-true, leb-false, ltb-true, ltb-false, and_parts, not-true, lt-ltb}
+use Rattle.std.proofs.lemmas.Bool.{cases_Bool, cases_eq, cases_lt, ne_eqb, false≢true, eqb-true, leb-true, leb-false, ltb-true, ltb-false, and_parts, not-true, lt-ltb, le-ltb}
 use Rattle.std.proofs.lemmas.List.{get_or_default, length_push}
 use Rattle.plan_terms.specs.Cluster.{Cluster, Lists, list_of, has, leads}
 use Rattle.goal_terms.specs.Quantity.{part_weight, load_weights}
@@ -256,3 +256,51 @@ ahead-other n x m y d never = elim (cases_lt m n) as (λ _. IsAhead m y n x) [
     | inr k ↦ record { falls = g; ties = λ t. omega (arith, d) }
   ]
 ]
+
+-- a row that grows partition by partition
+pub record Grows (c : Cluster) (lists : Lists) (b n : ℕ) (xs : List ℕ) : Type 0 where
+  pub in_order : IsInOrder (disk_of c lists b) xs
+  pub members : (q : ℕ) → has xs q ≡ (nat_lt q n && has (list_of lists q) b)
+  pub few : length xs ≤ n
+
+length-inserted : (xs : List ℕ) (i p : ℕ) → i ≤ length xs → length (insert xs i p) ≡ length xs + 1
+length-inserted xs zero p l = omega arith
+length-inserted [] (suc i) p l = absurd (omega arith)
+length-inserted (x ∷ xs) (suc i) p l = let h : length (insert xs i p) ≡ length xs + 1 = length-inserted xs i p (omega arith) in omega arith
+
+module _ (c : Cluster) (lists : Lists) (b n : ℕ) (xs : List ℕ) (h : Grows c lists b n xs) where
+  pub grows-within : All (λ q. q < n) xs
+  grows-within k d l =
+      let y = get_or xs k d in
+      ltb-true y n (and_parts (nat_lt y n) (has (list_of lists y) b) (sym (h.members y) ∙ has-at xs k d l)).0
+
+  pub grows-new : has xs n ≡ false
+  grows-new = h.members n ∙ rw (le-ltb n n (omega arith)) refl
+
+  later-lt : (q : ℕ) → (n ≡ q → ⊥) → nat_lt q n ≡ nat_lt q (n + 1)
+  later-lt q d = elim (cases_lt q n) as (λ _. nat_lt q n ≡ nat_lt q (n + 1)) [
+    | inl l ↦ lt-ltb q n l ∙ sym (lt-ltb q (n + 1) (omega arith))
+    | inr g ↦ le-ltb q n g ∙ sym (le-ltb q (n + 1) (omega (arith, d)))
+  ]
+
+  pub grows-skip : has (list_of lists n) b ≡ false → Grows c lists b (n + 1) xs
+  grows-skip none = record {
+    in_order = h.in_order;
+    members = λ q. h.members q ∙ elim (cases_eq n q) as (λ _. (nat_lt q n && has (list_of lists q) b) ≡ (nat_lt q (n + 1) && has (list_of lists q) b)) [
+      | inl e ↦ rw (← e, none) (and-false (nat_lt n n) ∙ sym (and-false (nat_lt n (n + 1))))
+      | inr d ↦ rw (later-lt q d) refl
+    ];
+    few = omega (arith, h.few);
+  }
+
+  pub grows-put : has (list_of lists n) b ≡ true → (w : ℕ) → w ≡ disk_of c lists b n → (ys : List ℕ) → IsPut (disk_of c lists b) w n xs ys → Grows c lists b (n + 1) ys
+  grows-put comes w e ys t = record {
+    in_order = rw t.is (order-inserted (disk_of c lists b) xs t.place n h.in_order t.fits.within
+        (λ k l. let a = t.fits.before k l in record { falls = omega (arith, a.falls, e); ties = λ u. a.ties (omega (arith, u, e)) })
+        (λ k l m. let a = t.fits.behind k l m in record { falls = omega (arith, a.falls, e); ties = λ u. a.ties (omega (arith, u, e)) }));
+    members = λ q. rw t.is (has-inserted xs t.place n q ∙ rw (h.members q) (elim (cases_eq n q) as (λ _. ((n == q) || (nat_lt q n && has (list_of lists q) b)) ≡ (nat_lt q (n + 1) && has (list_of lists q) b)) [
+      | inl f ↦ rw (eq-eqb n q f, ← f, comes, lt-ltb n (n + 1) (omega arith)) refl
+      | inr d ↦ rw (ne_eqb n q d, later-lt q d) refl
+    ]));
+    few = rw t.is (omega (arith, length-inserted xs t.place n t.fits.within, h.few));
+  }

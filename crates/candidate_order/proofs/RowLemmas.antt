@@ -28,7 +28,7 @@ through-flat : {X Y Z : Type 0} (f : Y → List Z) (h : X → Y) (xs : List X) �
 through-flat f h [] = refl
 through-flat f h (x ∷ xs) = ap (λ ys. f (h x) ++ ys) (through-flat f h xs)
 
-same-flat : {X Z : Type 0} (f g : X → List Z) (xs : List X) → All (λ x. f x ≡ g x) xs → flat_map f xs ≡ flat_map g xs
+pub same-flat : {X Z : Type 0} (f g : X → List Z) (xs : List X) → All (λ x. f x ≡ g x) xs → flat_map f xs ≡ flat_map g xs
 same-flat f g [] e = refl
 same-flat f g (x ∷ xs) e = let h = e 0 x (omega arith) in let t = same-flat f g xs (λ k d l. e (suc k) d (omega arith)) in cc
 

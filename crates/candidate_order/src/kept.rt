@@ -1,8 +1,9 @@
 // What is known before candidates are tried.
-ghost use Rattle.std.specs.Prelude.{◌≡◌, ◌<◌, ℕ, true, false, IfOk, map, length};
+ghost use Rattle.std.specs.Prelude.{◌≡◌, ◌<◌, ℕ, true, false, IfOk, IsTrue, map, length};
 ghost use Rattle.std.specs.List.{All};
-ghost use Rattle.candidate_order.specs.Looks.{look_weight, look_whole, IsWeighed};
+ghost use Rattle.candidate_order.specs.Looks.{is_cold, look_weight, look_whole, IsWeighed};
 ghost use Rattle.candidate_order.specs.Scan.{IsRow, AreWeights, IsScan};
+ghost use Rattle.goal_terms.specs.declared.heat.Heat.TheVariants as heat;
 ghost use Rattle.goal_terms.specs.PerBroker.{id_at, ids_of};
 ghost use Rattle.plan_terms.specs.Belongs.{IsBookOf};
 
@@ -140,4 +141,36 @@ pub fn all_rows<G: Goal>(
         rows.push(row)?;
     }
     Ok(rows)
+}
+
+impl Scan {
+    /// What no action changes.
+    pub fn new<G: Goal>(alloc: Global, case: &Case, earlier: &[G]) -> Result<Scan, Memory>
+        requires { All (λ g. G.made_for g case.now) earlier.now }
+        ensures { IfOk result (λ s. AreWeights G.weighs earlier.now case.now.parts s.weights.items) }
+    {
+        let weights = all_weights(alloc, case, earlier)?;
+        Ok(Scan {
+            weights,
+            rows: Vec::new(alloc),
+        })
+    }
+}
+
+fn is_cold(heat: Heat) -> bool
+    ensures { result ≡ is_cold heat }
+{
+    matches!(heat, Heat::Cold)
+}
+
+// Whether no broker lies outside its bounds.
+pub(crate) fn all_cold(rows: &[Row]) -> bool
+    ensures { IsTrue result → All (λ r. r.heat ≡ heat.Cold) rows.now }
+{
+    for row in rows {
+        if !is_cold(row.heat) {
+            return false;
+        }
+    }
+    true
 }

@@ -11,7 +11,7 @@ ghost use Rattle.plan_terms.specs.Effect.{after};
 ghost use Rattle.plan_terms.specs.Fits.{fits, targets_known};
 ghost use Rattle.plan_terms.specs.declared.actions.Action.{Action};
 
-use crate::ranks::{Ranked, disk, gain_in, is_first, take_out, trade_in};
+use crate::ranks::{Ranked, disk, gain_in, is_first, is_member, put_in, take_out, trade_in};
 use load_model::{Case, LoadBook, Memory};
 use move_actions::Action;
 use std::alloc::Global;
@@ -44,7 +44,39 @@ impl Model for Order {
     ghost view = { λ o. o.rows.items };
 }
 
+// The row of one broker, partition by partition.
+fn row_for(alloc: Global, case: &Case, book: &LoadBook, broker: u32) -> Result<Ranked, Memory>
+    requires { IsBookOf case.now book.now }
+    ensures { IfOk result (AreReplicasOf case.now book.now.lists broker) }
+{
+    let mut row = Ranked::new(alloc)?;
+    let _brokers = case.brokers();
+    let end = book.lists().len() as u32;
+    for part in 0..end {
+        let list = book.list(part as usize);
+        if is_member(list, broker) {
+            let weight = disk(case, part, is_first(list, broker));
+            put_in(case, book, broker, &mut row, part, weight);
+        }
+    }
+    Ok(row)
+}
+
 impl Order {
+    /// The order of the replicas as the book's lists stand.
+    pub fn new(alloc: Global, case: &Case, book: &LoadBook) -> Result<Order, Memory>
+        requires { IsBookOf case.now book.now }
+        ensures { IfOk result (IsOrderOf case.now book.now.lists) }
+    {
+        let mut rows = Vec::new(alloc);
+        let brokers = case.brokers();
+        for broker in brokers {
+            let row = row_for(alloc, case, book, broker.id)?;
+            rows.push(row)?;
+        }
+        Ok(Order { rows })
+    }
+
     /// The partitions of the replicas of the broker at a place.
     pub fn row(&self, broker: usize) -> &[u32]
         requires { broker < length self.now }

@@ -26,6 +26,13 @@ pub(crate) fn is_first(list: &[u32], broker: u32) -> bool
     }
 }
 
+// Whether a broker is a member.
+pub(crate) fn is_member(list: &[u32], broker: u32) -> bool
+    ensures { result ≡ has list.now broker }
+{
+    list.contains(&broker)
+}
+
 /// The partitions of one broker's replicas, in order. There is room for each partition, so that none is refused.
 #[derive(Drop)]
 pub struct Ranked {
