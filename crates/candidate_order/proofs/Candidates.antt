@@ -7,7 +7,7 @@ use Rattle.plan_terms.specs.Goal.{Meaning}
 use Rattle.plan_terms.specs.Legal.{is_legal, each_below, moves_of, leads_of, swaps_of, all_actions}
 use Rattle.plan_terms.specs.Trace.{IsUnhelpful, NoneLeft}
 use Rattle.candidate_order.specs.Kinds.{legal_below}
-use Rattle.candidate_order.specs.declared.scan.Kind.TheVariants.{Moves, Leads, Swaps}
+use Rattle.candidate_order.specs.declared.plain.Kind.TheVariants.{Moves, Leads, Swaps}
 
 module _ {X : Type 0} (P : X → Type 0) (p : X → Bool) where
   pub none_below : (f : ℕ → List X) → All P (filter p (each_below f 0))

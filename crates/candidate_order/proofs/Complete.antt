@@ -75,7 +75,7 @@ first-leads (x ∷ xs) b h = (eq-eqb x x refl, rw (eq-eqb x x refl) refl)
 
 module _ (c : Cluster) (lists : Lists) (h : Belongs c lists) where
   -- a member is a broker of the cluster
-  known-member : (p b : ℕ) → has (list_of lists p) b ≡ true → is_known c b ≡ true
+  pub known-member : (p b : ℕ) → has (list_of lists p) b ≡ true → is_known c b ≡ true
   known-member p b m = list_all-member (is_known c) b (list_of lists p) (h.known p [] (has-in_range lists p b m)) m
 
   -- and its replica of the partition is listed

@@ -3,6 +3,7 @@ use Rattle.std.specs.Prelude.{cond}
 use Rattle.std.proofs.Common.{◌≡◌, ℕ, ◌<◌, Bool, true, false, List, [], ◌∷◌, ◌++◌, length, get_or, map, take, zero, suc, refl, ap, ◌∙◌, sym, subst, arith, inl, inr, append_assoc}
 use Rattle.std.specs.List.{All, filter, flat_map}
 use Rattle.std.proofs.lemmas.Bool.{cases_Bool}
+use Rattle.std.proofs.lemmas.List.{get_or_default}
 use Rattle.std.proofs.lemmas.List.Elements.{All-append, All-nil, All-filter, filter-append}
 use Rattle.candidate_order.specs.First.{IsFirst, LeavesOutIdle}
 
@@ -51,6 +52,9 @@ module _ {X : Type 0} (P : X → Type 0) where
   }
   first-at {Y} f (z ∷ ys) (suc i) y l n e s =
       IsFirst-cons (f z) (map f ys) (f y) (n 0 z (omega arith)) (first-at f ys i y (omega arith) (λ k d m. n (suc k) d (omega arith)) e s)
+
+  pub first-place : {Y : Type 0} (f : Y → X) (ys : List Y) (i : ℕ) (d : Y) → i < length ys → All (λ z. P (f z) → ⊥) (take i ys) → P (f (get_or ys i d)) → IsFirst P (map f ys) (f (get_or ys i d))
+  first-place f ys i d l n s = first-at f ys i (get_or ys i d) l n (get_or_default ys i d (get_or ys i d) l) s
 
   -- none of lists end to end, where none of each
   pub none-flat : {Y : Type 0} (f : Y → List X) (ys : List Y) → All (λ z. All (λ x. P x → ⊥) (f z)) ys → All (λ x. P x → ⊥) (flat_map f ys)

@@ -5,3 +5,7 @@ pub mod RowLemmas
 pub mod OrderLemmas
 pub mod Complete
 pub mod LeadLemmas
+pub mod SwapLemmas
+pub mod RankLemmas
+pub mod TurnLemmas
+pub mod KindLemmas

@@ -143,16 +143,16 @@ pub follow-weights : {X : Type 0} (weighs : X → Option Weights) (xs : List X) 
     → ws ≡ map (λ x. look_weight (weighs x) parts p false) xs → ws ≡ map (λ x. look_weight (weighs x) parts p first) xs
 follow-weights weighs xs parts p ws first e h = rw e h
 
-cold-is : (h : Heat) → is_cold h ≡ true → h ≡ heat.Cold
+pub cold-is : (h : Heat) → is_cold h ≡ true → h ≡ heat.Cold
 cold-is heat.Cold e = refl
 cold-is heat.Above e = absurd (false≢true e)
 cold-is heat.Below e = absurd (false≢true e)
 cold-is heat.Other e = absurd (false≢true e)
 
-not_above : (h : Heat) → is_above h ≡ false → h ≡ heat.Above → ⊥
+pub not_above : (h : Heat) → is_above h ≡ false → h ≡ heat.Above → ⊥
 not_above h e i = false≢true (sym e ∙ ap is_above i)
 
-not_below : (h : Heat) → is_below h ≡ false → h ≡ heat.Below → ⊥
+pub not_below : (h : Heat) → is_below h ≡ false → h ≡ heat.Below → ⊥
 not_below h e i = false≢true (sym e ∙ ap is_below i)
 
 -- a move that cannot help does not

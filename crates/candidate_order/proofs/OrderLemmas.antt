@@ -10,7 +10,7 @@ use Rattle.candidate_order.specs.Order.{GoesBefore, IsInOrder, AreReplicasOf}
 use Rattle.candidate_order.proofs.RowLemmas.{All-put, All-front}
 
 -- a member has what all have
-member-All : (P : ℕ → Type 0) (xs : List ℕ) (p : ℕ) → has xs p ≡ true → All P xs → P p
+pub member-All : (P : ℕ → Type 0) (xs : List ℕ) (p : ℕ) → has xs p ≡ true → All P xs → P p
 member-All P [] p h a = absurd (false≢true h)
 member-All P (x ∷ xs) p h a = elim (cases_eq x p) as (λ _. P p) [
   | inl e ↦ rw (← e) (a 0 x (omega arith))

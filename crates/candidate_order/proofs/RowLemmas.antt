@@ -3,6 +3,7 @@ use Rattle.std.specs.Prelude.{List, Bool, nat_le, if◌then◌else◌, cond}
 use Rattle.std.proofs.Common.{◌≡◌, ℕ, ◌<◌, ◌≤◌, ◌++◌, true, false, zero, suc, length, get_or, arith, inl, inr, [], ◌∷◌, map, refl, ap, ◌∙◌, sym}
 use Rattle.std.specs.List.{All, flat_map, filter}
 use Rattle.std.proofs.lemmas.Bool.{cases_Bool}
+use Rattle.std.proofs.lemmas.List.{get_or-map, length-map}
 use Rattle.std.proofs.lemmas.List.Elements.{All-append, All-nil, All-filter}
 use Rattle.plan_terms.specs.Legal.{each_below}
 use Rattle.plan_terms.specs.Cluster.{Cluster, Lists, has, list_of}
@@ -10,7 +11,8 @@ use Rattle.plan_terms.specs.declared.cluster.Broker.{Broker}
 use Rattle.plan_terms.specs.declared.actions.Action.{Action}
 use Rattle.plan_terms.specs.declared.actions.Action.TheVariants.{Move}
 use Rattle.goal_terms.specs.PerBroker.{ids_of}
-use Rattle.candidate_order.specs.CandidateList.{moves_of_replica, move_list, replicas_of, by_falling, put_by, numbers}
+use Rattle.candidate_order.specs.CandidateList.{moves_of_replica, replicas_of, by_falling, put_by, numbers}
+use Rattle.candidate_order.specs.Order.{IsOrderOf}
 
 pub through : {X Y Z : Type 0} (f : Y → Z) (h : X → Y) (xs : List X) → map (λ x. f (h x)) xs ≡ map f (map h xs)
 through f h [] = refl
@@ -26,16 +28,33 @@ through-flat : {X Y Z : Type 0} (f : Y → List Z) (h : X → Y) (xs : List X) �
 through-flat f h [] = refl
 through-flat f h (x ∷ xs) = ap (λ ys. f (h x) ++ ys) (through-flat f h xs)
 
-same-flat : {X Z : Type 0} (f g : X → List Z) (xs : List X) → All (λ x. f x ≡ g x) xs → flat_map f xs ≡ flat_map g xs
+pub same-flat : {X Z : Type 0} (f g : X → List Z) (xs : List X) → All (λ x. f x ≡ g x) xs → flat_map f xs ≡ flat_map g xs
 same-flat f g [] e = refl
 same-flat f g (x ∷ xs) e = let h = e 0 x (omega arith) in let t = same-flat f g xs (λ k d l. e (suc k) d (omega arith)) in cc
 
-pub move_list-rows : {R : Type 0} (id : R → ℕ) (replicas : R → List ℕ) (rows : List R) (c : Cluster) (lists : Lists) → map id rows ≡ ids_of c.brokers
-    → All (λ r. replicas r ≡ replicas_of c lists (id r)) rows → move_list c lists ≡ flat_map (λ r. flat_map (moves_of_replica c (id r)) (replicas r)) rows
-move_list-rows id replicas rows c lists e same =
-    let F : ℕ → List Action = λ k. flat_map (moves_of_replica c k) (replicas_of c lists k) in
-    through-flat F (λ (y : Broker). y.id) c.brokers ∙ ap (flat_map F) (sym e) ∙ sym (through-flat F id rows)
-    ∙ sym (same-flat (λ r. flat_map (moves_of_replica c (id r)) (replicas r)) (λ r. F (id r)) rows (λ k d l. ap (flat_map (moves_of_replica c (id (get_or rows k d)))) (same k d l)))
+-- by the rows of the brokers
+pub by-rows : {R Z : Type 0} (id : R → ℕ) (f : ℕ → List Z) (rows : List R) (brokers : List Broker) → map id rows ≡ ids_of brokers
+    → flat_map (λ (x : Broker). f x.id) brokers ≡ flat_map (λ r. f (id r)) rows
+by-rows id f rows brokers e = through-flat f (λ (y : Broker). y.id) brokers ∙ ap (flat_map f) (sym e) ∙ sym (through-flat f id rows)
+
+-- the lists of what passes, end to end
+pub flat-filter : {X Z : Type 0} (f : X → List Z) (q : X → Bool) (xs : List X) → flat_map f (filter q xs) ≡ flat_map (λ x. if q x then f x else []) xs
+flat-filter f q [] = refl
+flat-filter f q (x ∷ xs) = elim (cases_Bool (q x)) as (λ _. flat_map f (filter q (x ∷ xs)) ≡ flat_map (λ y. if q y then f y else []) (x ∷ xs)) [
+  | inl e ↦ rw e (ap (λ ys. f x ++ ys) (flat-filter f q xs))
+  | inr e ↦ rw e (flat-filter f q xs)
+]
+
+-- an order has a row for each broker
+module _ {R : Type 0} (c : Cluster) (lists : Lists) (order : List (List ℕ)) (id : R → ℕ) (rows : List R) where
+  pub order-length : IsOrderOf c lists order → map id rows ≡ ids_of c.brokers → length order ≡ length rows
+  order-length o e = ap length o ∙ length-map c.brokers (λ (x : Broker). replicas_of c lists x.id) ∙ sym (length-map c.brokers (λ (x : Broker). x.id)) ∙ ap length (sym e) ∙ length-map rows id
+
+  pub order-row : (k : ℕ) (r : R) → IsOrderOf c lists order → map id rows ≡ ids_of c.brokers → k < length rows → r ≡ get_or rows k r → get_or order k [] ≡ replicas_of c lists (id r)
+  order-row k r o e l is =
+      let whole : order ≡ map (λ s. replicas_of c lists (id s)) rows =
+      o ∙ through (replicas_of c lists) (λ (y : Broker). y.id) c.brokers ∙ ap (map (replicas_of c lists)) (sym e) ∙ sym (through (replicas_of c lists) id rows) in
+      rw whole (get_or-map (λ s. replicas_of c lists (id s)) rows k r [] l ∙ ap (λ s. replicas_of c lists (id s)) (sym is))
 
 -- one more in front
 pub All-front : {X : Type 0} (P : X → Type 0) (x : X) (xs : List X) → P x → All P xs → All P (x ∷ xs)

@@ -3,7 +3,7 @@ use Rattle.std.specs.Prelude.{◌≡◌, ℕ, Bool, nat_le, List, [], ◌∷◌,
 use Rattle.std.specs.List.{All, filter, flat_map}
 use Rattle.plan_terms.specs.Cluster.{Cluster, Lists, list_of, has, leads}
 use Rattle.plan_terms.specs.Goal.{Meaning}
-use Rattle.plan_terms.specs.Legal.{is_legal, each_below}
+use Rattle.plan_terms.specs.Legal.{is_legal, each_below, leads_of}
 use Rattle.plan_terms.specs.Trace.{Step}
 use Rattle.plan_terms.specs.declared.cluster.Broker.{Broker}
 use Rattle.plan_terms.specs.declared.cluster.Part.{Part}
@@ -11,6 +11,8 @@ use Rattle.plan_terms.specs.declared.actions.Action.{Action}
 use Rattle.plan_terms.specs.declared.actions.Action.TheVariants.{Move, Lead, Swap}
 use Rattle.goal_terms.specs.Quantity.{part_weight, load_weights}
 use Rattle.candidate_order.specs.First.{IsFirst}
+use Rattle.candidate_order.specs.declared.plain.Kind.{Kind}
+use Rattle.candidate_order.specs.declared.plain.Kind.TheVariants.{Moves, Leads, Swaps}
 
 -- x goes before the first that weighs no more
 abbrev pub put_by : (ℕ → ℕ) → ℕ → List ℕ → List ℕ
@@ -50,6 +52,16 @@ lead_list c lists = flat_map (λ (x : Broker). flat_map (λ p. map (λ (y : Brok
 abbrev pub swap_list : Cluster → Lists → List Action
 swap_list c lists =
     flat_map (λ (x : Broker). flat_map (λ p. flat_map (λ (y : Broker). map (λ q. Swap p x.id q y.id) (replicas_of c lists y.id)) c.brokers) (replicas_of c lists x.id)) c.brokers
+
+-- the candidates of one kind for broker a's replica of partition p: a lead only where the broker is the first member
+abbrev pub candidates_at : Kind → Cluster → Lists → ℕ → ℕ → List Action
+candidates_at Moves c lists a p = moves_of_replica c a p
+candidates_at Leads c lists a p = if leads (list_of lists p) a then leads_of c.brokers p else []
+candidates_at Swaps c lists a p = flat_map (λ (y : Broker). map (λ q. Swap p a q y.id) (replicas_of c lists y.id)) c.brokers
+
+-- those of all replicas, broker by broker
+abbrev pub candidates_in : Kind → Cluster → Lists → List Action
+candidates_in kind c lists = flat_map (λ (x : Broker). flat_map (candidates_at kind c lists x.id) (replicas_of c lists x.id)) c.brokers
 
 -- the legal ones: moves, leads, swaps
 unfoldable pub candidate_list : Cluster → Lists → List Action

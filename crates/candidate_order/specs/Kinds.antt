@@ -5,8 +5,8 @@ use Rattle.plan_terms.specs.Cluster.{Cluster, Lists}
 use Rattle.plan_terms.specs.Legal.{is_legal, each_below, moves_of, leads_of, swaps_of}
 use Rattle.plan_terms.specs.declared.cluster.Broker.{Broker}
 use Rattle.plan_terms.specs.declared.actions.Action.{Action}
-use Rattle.candidate_order.specs.declared.scan.Kind.{Kind}
-use Rattle.candidate_order.specs.declared.scan.Kind.TheVariants.{Moves, Leads, Swaps}
+use Rattle.candidate_order.specs.declared.plain.Kind.{Kind}
+use Rattle.candidate_order.specs.declared.plain.Kind.TheVariants.{Moves, Leads, Swaps}
 
 -- the candidates of one kind in partition p, of n partitions
 abbrev pub candidates_of : Kind → List Broker → ℕ → ℕ → List Action

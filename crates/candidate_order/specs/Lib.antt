@@ -4,3 +4,5 @@ pub mod Kinds
 pub mod Laws
 pub mod Looks
 pub mod Order
+pub mod Ranks
+pub mod Scan

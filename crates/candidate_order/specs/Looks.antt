@@ -1,5 +1,5 @@
 -- What the earlier goals with quantities say of a move, in numbers.
-use Rattle.std.specs.Prelude.{◌≡◌, ℕ, Bool, true, false, not, ◌&&◌, ◌||◌, ◌==◌, ◌≤◌, List, Option, Some, None, map}
+use Rattle.std.specs.Prelude.{◌≡◌, ℕ, Bool, true, false, not, ◌&&◌, ◌||◌, ◌==◌, ◌≤◌, nat_lt, if◌then◌else◌, List, Option, Some, None, map}
 use Rattle.plan_terms.specs.Cluster.{Lists}
 use Rattle.plan_terms.specs.declared.actions.Action.{Action}
 use Rattle.plan_terms.specs.declared.cluster.Part.{Part}
@@ -29,10 +29,6 @@ pub record Passes (weight : ℕ) (giver taker : Room) : Type 0 where
   pub gives : weight ≤ giver.give
   pub takes : weight ≤ taker.take
 
--- what is kept of one broker for the earlier goals
-pub record IsRowOf {X : Type 0} (weighs : X → Option Weights) (room : X → ℕ → Room) (earlier : List X) (id : ℕ) (rooms : List Room) : Type 0 where
-  pub rooms_are : rooms ≡ map (λ x. look_room (weighs x) (room x id)) earlier
-
 -- what is kept of one partition for the earlier goals: what its first place weighs, and each other one
 pub record IsWeighed {X : Type 0} (weighs : X → Option Weights) (earlier : List X) (parts : List Part) (p : ℕ) (lead follow : List ℕ) : Type 0 where
   pub leads : lead ≡ map (λ x. look_weight (weighs x) parts p true) earlier
@@ -61,6 +57,20 @@ is_below heat.Other = false
 abbrev pub may_help : Option ℕ → Heat → Heat → Bool
 may_help None source target = not (is_cold source && is_cold target)
 may_help (Some n) source target = not (n == 0) && (is_above source || is_below target)
+
+-- a swap with a broker whose replicas are not looked at yet can help the goal: where it has a quantity, one of the two brokers lies
+-- outside its bounds; elsewhere one of the two is not cold
+abbrev pub may_meet : Option ℕ → Heat → Heat → Bool
+may_meet None source target = not (is_cold source && is_cold target)
+may_meet (Some n) source target = (is_above source || is_below source) || (is_above target || is_below target)
+
+-- a swap of these weights can help the goal: where it has a quantity, the weights differ, and the broker that gives the greater is
+-- above or the other one below; elsewhere one of the two is not cold
+abbrev pub may_swap : Option ℕ → Option ℕ → Heat → Heat → Bool
+may_swap None back source target = not (is_cold source && is_cold target)
+may_swap (Some m) None source target = not (is_cold source && is_cold target)
+may_swap (Some m) (Some n) source target =
+    if nat_lt n m then is_above source || is_below target else nat_lt m n && (is_above target || is_below source)
 
 -- what the giver of an action gives for a goal, and what it gets back: nothing where the goal has no quantity
 abbrev pub look_out : Option Weights → List Part → Lists → Action → ℕ

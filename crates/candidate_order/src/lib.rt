@@ -1,18 +1,27 @@
 //! Which action the planner takes next: a legal one that the goals before accept and that lessens the goal at hand.
 #![tactic(auto)]
 
+mod kept;
 mod laws;
 mod leads;
 mod looks;
-mod moves;
+mod next;
+mod nexts;
+mod order;
+mod plain;
+mod ranks;
 mod rows;
-mod scan;
+mod swaps;
 mod trades;
 
+pub use kept::{PartWeights, Row, Scan, all_rows, all_weights};
 pub use laws::{candidates_are_all, filters_keep_the_first, moves_come_first, replicas_are_unique};
 pub use leads::first_lead;
 pub use looks::{all_give, all_pass, rooms_of, weights_of, wholes_of};
-pub use moves::{PartWeights, first_of, next_move};
-pub use rows::{Row, first_to};
-pub use scan::{all_accept, next_lessening};
+pub use next::next_lessening;
+pub use nexts::next_in;
+pub use order::Order;
+pub use plain::{Kind, all_accept, plain_next};
+pub use rows::first_to;
+pub use swaps::first_swap;
 pub use trades::{all_stay, trade_serves};

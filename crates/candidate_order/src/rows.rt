@@ -1,10 +1,10 @@
-// The first move that serves, row by row.
-ghost use Rattle.std.specs.Prelude.{◌≡◌, ◌<◌, ◌↔◌, ℕ, true, false, IsTrue, IfNone, MatchOption, option_map, map, length, get_or};
+// The first move of a replica that serves.
+ghost use Rattle.std.specs.Prelude.{◌≡◌, ◌<◌, ◌↔◌, ℕ, true, false, IsTrue, IfNone, MatchOption, option_map, map, length};
 ghost use Rattle.std.specs.List.{All};
 ghost use Rattle.candidate_order.specs.CandidateList.{moves_of_replica, NoStep};
 ghost use Rattle.candidate_order.specs.First.{IsFirst};
-ghost use Rattle.candidate_order.specs.Looks.{look_weight, look_room, may_help, IsRowOf};
-ghost use Rattle.goal_terms.specs.PerBroker.{ids_of};
+ghost use Rattle.candidate_order.specs.Looks.{look_weight, may_help};
+ghost use Rattle.candidate_order.specs.Scan.{IsRow, IsScan};
 ghost use Rattle.goal_terms.specs.Quantity.{part_weight};
 ghost use Rattle.plan_terms.specs.Belongs.{IsBookOf};
 ghost use Rattle.plan_terms.specs.Cluster.{list_of, leads};
@@ -13,9 +13,10 @@ ghost use Rattle.plan_terms.specs.Goal.{Accepts};
 ghost use Rattle.plan_terms.specs.Trace.{Step};
 ghost use Rattle.plan_terms.specs.declared.actions.Action.{Action};
 
+use crate::kept::{Row, Scan};
 use crate::looks::{all_pass, may_leave};
 use load_model::{Case, LoadBook};
-use move_actions::{Action, Goal, Heat, Room, legal};
+use move_actions::{Action, Goal, Heat, legal};
 
 // Whether a move of that weight can help the goal at all.
 fn may_help(own: Option<u64>, source: Heat, target: Heat) -> bool
@@ -27,19 +28,6 @@ fn may_help(own: Option<u64>, source: Heat, target: Heat) -> bool
         }
         None => !(matches!(source, Heat::Cold) && matches!(target, Heat::Cold)),
     }
-}
-
-/// What is kept of one broker while candidates are tried.
-#[derive(Drop)]
-pub struct Row {
-    /// The broker's id.
-    pub id: u32,
-    /// Its room for each earlier goal: no limit for one without a quantity.
-    pub rooms: Vec<Room>,
-    /// The partitions of its replicas, by falling DISK load, ties by partition.
-    pub replicas: Vec<u32>,
-    /// Where its quantity lies for the goal at hand.
-    pub heat: Heat,
 }
 
 // Whether a goal accepts an action, where it has no quantity.
@@ -87,35 +75,33 @@ fn move_serves<G: Goal>(
     earlier: &[G],
     goal: &G,
     part: u32,
-    from: u32,
+    source: &Row,
     weights: &[u64],
-    givers: &[Room],
     own: Option<u64>,
-    heat: Heat,
     target: &Row,
 ) -> bool
     requires made { All (λ g. G.made_for g case.now) earlier.now }
     requires made_goal { G.made_for goal.now case.now }
     requires belongs { IsBookOf case.now book.now }
     requires part { part < length case.now.parts }
-    requires weights { weights.now ≡ map (λ g. look_weight (G.weighs g) case.now.parts part (leads (list_of book.now.lists part) from)) earlier.now }
-    requires givers { givers.now ≡ map (λ g. look_room (G.weighs g) (G.room_at g case.now book.now.lists from)) earlier.now }
-    requires own { own ≡ option_map (λ w. part_weight w case.now.parts part (leads (list_of book.now.lists part) from)) (G.weighs goal.now) }
-    requires heat { heat ≡ G.heat_at goal.now case.now book.now.lists from }
-    requires target { target.now.heat ≡ G.heat_at goal.now case.now book.now.lists target.now.id }
-    requires takers { IsRowOf G.weighs (λ g. G.room_at g case.now book.now.lists) earlier.now target.now.id target.now.rooms.items }
-    ensures { IsTrue result ↔ Step case.now (map (λ g. G.meaning g case.now) earlier.now) (G.meaning goal.now case.now) book.now.lists (Action.Move part from target.now.id) }
+    requires source { IsRow G.weighs (λ g. G.room_at g case.now book.now.lists) (G.heat_at goal.now case.now book.now.lists) earlier.now source.now }
+    requires weights { weights.now ≡ map (λ g. look_weight (G.weighs g) case.now.parts part (leads (list_of book.now.lists part) source.now.id)) earlier.now }
+    requires own { own ≡ option_map (λ w. part_weight w case.now.parts part (leads (list_of book.now.lists part) source.now.id)) (G.weighs goal.now) }
+    requires target { IsRow G.weighs (λ g. G.room_at g case.now book.now.lists) (G.heat_at goal.now case.now book.now.lists) earlier.now target.now }
+    ensures { IsTrue result ↔ Step case.now (map (λ g. G.meaning g case.now) earlier.now) (G.meaning goal.now case.now) book.now.lists (Action.Move part source.now.id target.now.id) }
 {
     let _brokers = case.brokers();
     let action = Action::Move {
         part,
-        from,
+        from: source.id,
         to: target.id,
     };
-    if !may_help(own, heat, target.heat) {
+    if !may_help(own, source.heat, target.heat) {
         return false;
     }
-    if !all_pass(weights, givers, &target.rooms) {
+    let givers = source.rooms.as_slice();
+    let takers = target.rooms.as_slice();
+    if !all_pass(weights, givers, takers) {
         return false;
     }
     if !legal(case, book, action) {
@@ -127,45 +113,40 @@ fn move_serves<G: Goal>(
     others_accept(case, book, earlier, part, action)
 }
 
-/// The first move of one replica that serves, by the order of the rows.
+/// The first move of one replica that serves, by the order of the brokers.
 pub fn first_to<G: Goal>(
     case: &Case,
     book: &LoadBook,
     earlier: &[G],
     goal: &G,
+    scan: &Scan,
     part: u32,
-    from: u32,
+    source: &Row,
     weights: &[u64],
-    givers: &[Room],
     own: Option<u64>,
-    heat: Heat,
-    rows: &[Row],
 ) -> Option<Action>
     requires made { All (λ g. G.made_for g case.now) earlier.now }
     requires made_goal { G.made_for goal.now case.now }
     requires belongs { IsBookOf case.now book.now }
+    requires scan { IsScan G.weighs (λ g. G.room_at g case.now book.now.lists) (G.heat_at goal.now case.now book.now.lists) earlier.now case.now scan.now }
     requires part { part < length case.now.parts }
-    requires weights { weights.now ≡ map (λ g. look_weight (G.weighs g) case.now.parts part (leads (list_of book.now.lists part) from)) earlier.now }
-    requires givers { givers.now ≡ map (λ g. look_room (G.weighs g) (G.room_at g case.now book.now.lists from)) earlier.now }
-    requires own { own ≡ option_map (λ w. part_weight w case.now.parts part (leads (list_of book.now.lists part) from)) (G.weighs goal.now) }
-    requires heat { heat ≡ G.heat_at goal.now case.now book.now.lists from }
-    requires heats { All (λ r. r.heat ≡ G.heat_at goal.now case.now book.now.lists r.id) rows.now }
-    requires rows { All (λ r. IsRowOf G.weighs (λ g. G.room_at g case.now book.now.lists) earlier.now r.id r.rooms.items) rows.now }
-    requires brokers { map (λ r. r.id) rows.now ≡ ids_of case.now.brokers }
+    requires source { IsRow G.weighs (λ g. G.room_at g case.now book.now.lists) (G.heat_at goal.now case.now book.now.lists) earlier.now source.now }
+    requires weights { weights.now ≡ map (λ g. look_weight (G.weighs g) case.now.parts part (leads (list_of book.now.lists part) source.now.id)) earlier.now }
+    requires own { own ≡ option_map (λ w. part_weight w case.now.parts part (leads (list_of book.now.lists part) source.now.id)) (G.weighs goal.now) }
     ensures { MatchOption result
-        (NoStep case.now (map (λ g. G.meaning g case.now) earlier.now) (G.meaning goal.now case.now) book.now.lists (moves_of_replica case.now from part))
-        (λ a. IsFirst (Step case.now (map (λ g. G.meaning g case.now) earlier.now) (G.meaning goal.now case.now) book.now.lists) (moves_of_replica case.now from part) a) }
+        (NoStep case.now (map (λ g. G.meaning g case.now) earlier.now) (G.meaning goal.now case.now) book.now.lists (moves_of_replica case.now source.now.id part))
+        (λ a. IsFirst (Step case.now (map (λ g. G.meaning g case.now) earlier.now) (G.meaning goal.now case.now) book.now.lists) (moves_of_replica case.now source.now.id part) a) }
 {
-    if !may_leave(case, book, earlier, part, from, weights, givers) {
+    let givers = source.rooms.as_slice();
+    if !may_leave(case, book, earlier, part, source.id, weights, givers) {
         return None;
     }
+    let rows = scan.rows.as_slice();
     for row in rows {
-        if move_serves(
-            case, book, earlier, goal, part, from, weights, givers, own, heat, row,
-        ) {
+        if move_serves(case, book, earlier, goal, part, source, weights, own, row) {
             return Some(Action::Move {
                 part,
-                from,
+                from: source.id,
                 to: row.id,
             });
         }

@@ -1,7 +1,9 @@
 -- A run of the planner after one turn more, and how it ends.
-use Rattle.std.proofs.Common.{◌≡◌, ℕ, ◌+◌, ◌<◌, ◌≤◌, true, false, List, [], ◌∷◌, ◌++◌, length, map, take, drop, get_or, refl, sym, ◌∙◌, arith}
+use Rattle.std.proofs.Common.{◌≡◌, ℕ, ◌+◌, ◌<◌, ◌≤◌, true, false, List, [], ◌∷◌, ◌++◌, length, map, take, drop, get_or, refl, sym, ap, ◌∙◌, arith}
 use Rattle.std.specs.Prelude.{IsTrue}
-use Rattle.std.proofs.lemmas.List.{take_more, take_all, map-append, take-append-drop, length-map, length-take}
+use Rattle.std.proofs.lemmas.List.{take_more, take_all, map-append, take-append-drop, length-map, length-take, length-take-le, take-map, get_or-map}
+use Rattle.goal_optimizer.proofs.Firsts.{turns-push}
+use Rattle.goal_optimizer.specs.Firsts.{FirstSteps, FirstTurns}
 use Rattle.plan_terms.specs.Belongs.{Belongs}
 use Rattle.plan_terms.specs.Cluster.{Cluster, Lists}
 use Rattle.plan_terms.specs.Effect.{after_all}
@@ -43,6 +45,19 @@ module _ (c : Cluster) (start : Lists) (kinds : List GoalKind) (turns : List Tur
     pub turns_more : (IsTrue (meaning_of kind c).hard → measure (meaning_of kind c) (after_all actions (after_turns (map (λ t. t.actions) turns) start)) ≡ 0)
         → Turns c [] (meanings c (take (place + 1) kinds)) start (map (λ t. t.actions) (turns ++ last ∷ []))
     turns_more met = rw actions_more (planned_more (λ k. meaning_of k c) kinds place d kind l at c start (map (λ t. t.actions) turns) actions before here met)
+
+    -- the actions are still the first ones
+    pub firsts_more : FirstTurns c [] (meanings c kinds) start (map (λ t. t.actions) turns)
+        → FirstSteps c (meanings c (take place kinds)) (meaning_of kind c) (after_turns (map (λ t. t.actions) turns) start) actions
+        → FirstTurns c [] (meanings c kinds) start (map (λ t. t.actions) (turns ++ last ∷ []))
+    firsts_more f s =
+        let count : length (map (λ (t : Turned). t.actions) turns) ≡ place =
+        length-map turns (λ (t : Turned). t.actions) ∙ sym (length-map turns (λ (t : Turned). t.goal)) ∙ ap length goals_are ∙ length-take-le place kinds (omega arith) in
+        let within : length (map (λ (t : Turned). t.actions) turns) < length (meanings c kinds) = omega (arith, l, count, length-map kinds (λ k. meaning_of k c)) in
+        let here_is : meaning_of kind c ≡ get_or (meanings c kinds) (length (map (λ (t : Turned). t.actions) turns)) (meaning_of kind c) =
+        rw count (ap (λ k. meaning_of k c) at ∙ sym (get_or-map (λ k. meaning_of k c) kinds place d (meaning_of kind c) l)) in
+        rw actions_more
+        (turns-push c [] (meanings c kinds) start (map (λ (t : Turned). t.actions) turns) actions (meaning_of kind c) within here_is f (rw (count, take-map (λ k. meaning_of k c) place kinds) s))
 
     pub is_failure : (trace : Trace) (left : ℕ) → trace.turns.items ≡ turns ++ last ∷ [] → trace.planned ≡ false → IsTrue (meaning_of kind c).hard
         → left ≡ measure (meaning_of kind c) (after_all actions (after_turns (map (λ t. t.actions) turns) start)) → 0 < left

@@ -1,12 +1,14 @@
 // A turn for each goal of a list.
-ghost use Rattle.std.specs.Prelude.{◌≡◌, IfErr, IfOk, map};
+ghost use Rattle.std.specs.Prelude.{◌≡◌, IfErr, IfOk, MatchResult, map};
 ghost use Rattle.std.specs.List.{All};
 ghost use Rattle.plan_terms.specs.Belongs.{Belongs};
 ghost use Rattle.goal_set.specs.AnyMeaning.{any_made, any_meaning};
 ghost use Rattle.goal_set.specs.Kinds.{meanings};
+ghost use Rattle.goal_optimizer.specs.Firsts.{FaultTakesFirsts, TakesFirsts};
 ghost use Rattle.goal_optimizer.specs.Outcomes.{IsFaultOf, IsOutcome, IsPlanOf};
 
 use crate::turn::take_turn;
+use candidate_order::Order;
 use goal_set::{AnyGoal, Failure, GoalKind, GoalList, Plan, Trace, Turned, goals_of};
 use load_model::{Assign, Case, LoadBook, Memory};
 use move_actions::{Goal, measure};
@@ -50,13 +52,15 @@ fn take_turns(
     requires made { All (λ g. any_made g case.now) goals.now }
     requires meanings { map (λ g. any_meaning g case.now) goals.now ≡ meanings case.now kinds.now }
     requires belongs { Belongs case.now start.now }
-    ensures { IfOk result (IsOutcome case.now start.now kinds.now) }
+    ensures outcome { IfOk result (IsOutcome case.now start.now kinds.now) }
+    ensures firsts { IfOk result (λ o. TakesFirsts case.now start.now kinds.now o.turns.items) }
 {
     let mut book = LoadBook::new(alloc, case, start)?;
+    let mut order = Order::new(alloc, case, &book)?;
     let mut turns = Vec::new(alloc);
     for place in 0..kinds.len() {
         let goal = &goals[place];
-        let actions = take_turn(alloc, case, &mut book, &goals[..place], goal)?;
+        let actions = take_turn(alloc, case, &mut book, &mut order, &goals[..place], goal)?;
         turns.push(Turned {
             goal: kinds[place],
             actions,
@@ -80,6 +84,7 @@ fn take_turns(
 /// Optimises the goals one after another from the start: a plan in which each goal had its turn and each hard goal was met at
 /// the end of its own, or the failure of the first hard goal that was not. In a goal's turn an action is taken only if it is
 /// legal, each goal before accepts it and it lessens the goal; the turn ends where the goal is met or no such action is left.
+/// Each action is the first such one of the list of candidates.
 pub fn optimise(
     alloc: Global,
     case: &Case,
@@ -89,6 +94,7 @@ pub fn optimise(
     requires { Belongs case.now start.now }
     ensures plan { IfOk result (IsPlanOf case.now start.now goals.now) }
     ensures fault { IfErr result (IsFaultOf case.now start.now goals.now) }
+    ensures firsts { MatchResult result (λ p. TakesFirsts case.now start.now goals.now p.trace.turns.items) (FaultTakesFirsts case.now start.now goals.now) }
 {
     let made = goals_of(alloc, goals.kinds(), case)?;
     let outcome = take_turns(alloc, case, start, goals.kinds(), &made)?;

@@ -1,41 +1,48 @@
 // One goal's turn.
 ghost use Rattle.std.specs.Prelude.{◌≡◌, ◌≤◌, IfOk, map};
 ghost use Rattle.std.specs.List.{All};
+ghost use Rattle.candidate_order.specs.Order.{IsOrderOf};
+ghost use Rattle.goal_optimizer.specs.Firsts.{FirstSteps};
 ghost use Rattle.plan_terms.specs.Belongs.{IsBookOf};
 ghost use Rattle.plan_terms.specs.Effect.{after_all};
 ghost use Rattle.plan_terms.specs.Trace.{Turn};
 
-use candidate_order::next_lessening;
+use candidate_order::{Order, Scan, next_lessening};
 use load_model::{Case, LoadBook, Memory};
-use move_actions::{Actions, Goal, Moves, measure};
+use move_actions::{Actions, Goal, Moves};
 use std::alloc::Global;
 
-/// Takes the turn of a goal: one action after another that the earlier goals accept and that lessens it, up to lists at
-/// which it is met or no such action is left.
+/// Takes the turn of a goal: one action after another, each the first candidate that the earlier goals accept and that
+/// lessens it, up to lists at which no such action is left. That ends where the goal is met, if not before.
 pub fn take_turn<G: Goal>(
     alloc: Global,
     case: &Case,
     book: &mut LoadBook,
+    order: &mut Order,
     earlier: &[G],
     goal: &G,
 ) -> Result<Actions, Memory>
     requires made { All (λ g. G.made_for g case.now) earlier.now }
     requires made_goal { G.made_for goal.now case.now }
     requires belongs { IsBookOf case.now book.old }
+    requires order { IsOrderOf case.now book.old.lists order.old }
     ensures turn { IfOk result (λ actions. Turn case.now (map (λ g. G.meaning g case.now) earlier.now) (G.meaning goal.now case.now) book.old.lists actions) }
+    ensures firsts { IfOk result (λ actions. FirstSteps case.now (map (λ g. G.meaning g case.now) earlier.now) (G.meaning goal.now case.now) book.old.lists actions) }
     ensures end { IfOk result (λ actions. book.new.lists ≡ after_all actions book.old.lists) }
     ensures belongs { IfOk result (λ actions. IsBookOf case.now book.new) }
+    ensures order { IfOk result (λ actions. IsOrderOf case.now book.new.lists order.new) }
 {
+    let mut scan = Scan::new(alloc, case, earlier)?;
     let mut actions = Actions::new(alloc);
-    'scan: while measure(goal, case, book) > 0 {
-        let next = next_lessening(alloc, case, book, earlier, goal)?;
+    'scan: loop {
+        let next = next_lessening(alloc, case, book, order, &mut scan, earlier, goal)?;
         match next {
             None => return Ok(actions),
             Some(action) => {
+                order.after(case, book, action);
                 book.apply(case, action);
                 actions.push(action)?;
             }
         }
     }
-    Ok(actions)
 }

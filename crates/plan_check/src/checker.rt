@@ -12,7 +12,7 @@ ghost use Rattle.plan_check.specs.Judged.{IsGoodBefore, Judges};
 ghost use Rattle.plan_check.specs.declared.faults.Verdict.TheVariants as verdict;
 
 use crate::faults::{FaultKind, Verdict};
-use candidate_order::{all_accept, next_lessening};
+use candidate_order::{all_accept, plain_next};
 use goal_set::{AnyGoal, GoalKind, GoalList, Trace, goals_of};
 use load_model::{Assign, Case, LoadBook, Memory};
 use move_actions::{Action, Goal, Moves, legal, measure};
@@ -94,7 +94,7 @@ fn judge_turn<G: Goal>(
     if measure(goal, case, &here) == 0 {
         return Ok(TurnEnd::Done(here));
     }
-    let left = next_lessening(alloc, case, &here, earlier, goal)?;
+    let left = plain_next(alloc, case, &here, earlier, goal)?;
     match left {
         Some(_) => Ok(TurnEnd::Fault {
             action: actions.len(),

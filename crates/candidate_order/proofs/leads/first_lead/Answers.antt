@@ -6,16 +6,17 @@ use Rattle.std.proofs.Common.{refl}
 use Rattle.plan_terms.specs.Trace.{Step}
 use Rattle.plan_terms.specs.declared.actions.Action.TheVariants.{Lead}
 use Rattle.candidate_order.proofs.Firsts.{first-at}
-use Rattle.candidate_order.proofs.LeadLemmas.{leads-rows}
-use Rattle.candidate_order.specs.declared.rows.Row.{Row}
+use Rattle.std.proofs.Common.{◌∙◌}
+use Rattle.candidate_order.proofs.LeadLemmas.{leads-rows, lead-outs, lead-backs}
+use Rattle.candidate_order.specs.declared.kept.Row.{Row}
 use Rattle.candidate_order.proofs.leads.first_lead.Goals as goal
 
 pub returns-then-trade_serves : goal.returns-then-trade_serves
 returns-then-trade_serves g c =
     let case = c.args.case.now in
     let lists = c.args.book.now.lists in
-    rw (leads-rows (λ (r : Row). r.id) c.args.rows.now case c.args.part c.requires.brokers)
-    (first-at (Step case (map (λ x. g.G.Goal.meaning x case) c.args.earlier.now) (g.G.Goal.meaning c.args.goal.now case) lists) (λ (r : Row). Lead c.args.part r.id) c.args.rows.now c.loop-row.row-index c.row-item.result
+    rw (leads-rows (λ (r : Row). r.id) c.as_slice-rows.result.now case c.args.part (rw c.as_slice-rows.ensures.value c.requires.scan.brokers_are))
+    (first-at (Step case (map (λ x. g.G.Goal.meaning x case) c.args.earlier.now) (g.G.Goal.meaning c.args.goal.now case) lists) (λ (r : Row). Lead c.args.part r.id) c.as_slice-rows.result.now c.loop-row.row-index c.row-item.result
     c.loop-row-test.true c.loop-row.invariant c.row-item.is (c.if-trade_serves.ensures.0 refl))
 
 pub loop-row-preserved : goal.loop-row-preserved
@@ -25,13 +26,19 @@ loop-row-preserved g c =
     let no : Step case (map (λ x. g.G.Goal.meaning x case) c.args.earlier.now) (g.G.Goal.meaning c.args.goal.now case) lists (Lead c.args.part c.row-item.result.id) → ⊥ =
     λ s. false≢true (c.if-trade_serves.ensures.1 s) in
     All-more (λ (r : Row). Step case (map (λ x. g.G.Goal.meaning x case) c.args.earlier.now) (g.G.Goal.meaning c.args.goal.now case) lists (Lead c.args.part r.id) → ⊥)
-    c.args.rows.now c.loop-row.row-index c.row-item.result c.loop-row-test.true c.loop-row.invariant
+    c.as_slice-rows.result.now c.loop-row.row-index c.row-item.result c.loop-row-test.true c.loop-row.invariant
     (rw c.row-item.is at no)
 
 pub returns : goal.returns
 returns g c =
     let case = c.args.case.now in
     let lists = c.args.book.now.lists in
-    rw (leads-rows (λ (r : Row). r.id) c.args.rows.now case c.args.part c.requires.brokers)
-    (All-map (λ a. Step case (map (λ x. g.G.Goal.meaning x case) c.args.earlier.now) (g.G.Goal.meaning c.args.goal.now case) lists a → ⊥) (λ (r : Row). Lead c.args.part r.id) c.args.rows.now
-    (rw (take_all c.loop-row.row-index c.args.rows.now c.loop-row-test.false) at c.loop-row.invariant))
+    rw (leads-rows (λ (r : Row). r.id) c.as_slice-rows.result.now case c.args.part (rw c.as_slice-rows.ensures.value c.requires.scan.brokers_are))
+    (All-map (λ a. Step case (map (λ x. g.G.Goal.meaning x case) c.args.earlier.now) (g.G.Goal.meaning c.args.goal.now case) lists a → ⊥) (λ (r : Row). Lead c.args.part r.id) c.as_slice-rows.result.now
+    (rw (take_all c.loop-row.row-index c.as_slice-rows.result.now c.loop-row-test.false) at c.loop-row.invariant))
+
+pub trade_serves-requires-clause-outs : goal.trade_serves-requires-clause-outs
+trade_serves-requires-clause-outs g c = c.column-outs.ensures ∙ lead-outs g.G.Goal.weighs c.args.case.now.parts c.args.book.now.lists c.args.part c.row-item.result.id c.args.earlier.now
+
+pub trade_serves-requires-clause-backs : goal.trade_serves-requires-clause-backs
+trade_serves-requires-clause-backs g c = c.column-backs.ensures ∙ lead-backs g.G.Goal.weighs c.args.case.now.parts c.args.book.now.lists c.args.part c.row-item.result.id c.args.earlier.now

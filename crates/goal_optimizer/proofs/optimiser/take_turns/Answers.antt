@@ -1,13 +1,14 @@
 use Rattle.plan_terms.proofs.SameLemmas.{SameLoads-refl}
-use Rattle.std.proofs.Common.{ℕ, ◌≤◌, ◌≡◌, sym, ◌∙◌, ap, refl, arith, get_or}
+use Rattle.std.proofs.Common.{[], ℕ, ◌≤◌, ◌≡◌, sym, ◌∙◌, ap, refl, arith, get_or}
 use Rattle.std.proofs.lemmas.Bool.{false≢true}
 use Rattle.std.proofs.lemmas.List.{length-take-le}
 use Rattle.plan_terms.specs.Belongs.{Book}
 use Rattle.plan_terms.proofs.Runs.{Turns-nil, after_turns-push}
 use Rattle.goal_set.specs.AnyMeaning.{any_meaning}
-use Rattle.goal_set.specs.Kinds.{meaning_of}
+use Rattle.goal_set.specs.Kinds.{meaning_of, meanings}
+use Rattle.goal_optimizer.proofs.Firsts.{turns-nil}
 use Rattle.goal_set.specs.declared.kinds.GoalKind.TheVariants.{Evacuation}
-use Rattle.goal_optimizer.proofs.Outcomes.{is_plan, goals_more, actions_more, turns_more, is_failure}
+use Rattle.goal_optimizer.proofs.Outcomes.{is_plan, goals_more, actions_more, turns_more, firsts_more, is_failure}
 use Rattle.goal_set.proofs.Fronts.{same_length, same_front, same_at}
 use Rattle.goal_optimizer.proofs.optimiser.take_turns.Goals as goal
 use Rattle.goal_optimizer.proofs.optimiser.take_turns.Goals.{else-is_hard-via-then-is_hard+else-left-gt0, else-is_hard-via-else-is_hard}
@@ -18,6 +19,8 @@ loop-place-init c = record {
   goals_are = rw c.new-turns.ensures.items refl;
   book_is = rw c.new-turns.ensures.items (ap (λ (b : Book). b.lists) c.in_ok-book.ensures);
   belongs = rw c.in_ok-book.ensures (record { same_loads = SameLoads-refl _; lists_belong = c.requires.belongs });
+  firsts = rw c.new-turns.ensures.items (turns-nil c.args.case.now [] (meanings c.args.case.now c.args.kinds.now) c.args.start.now);
+  order_is = c.in_ok-order.ensures;
 }
 
 pub slice_bounds-take_turn-end : goal.slice_bounds-take_turn-end
@@ -40,8 +43,8 @@ is_hard-requires c =
     let same = same_length (λ g. any_meaning g c.args.case.now) (λ k. meaning_of k c.args.case.now) c.args.goals.now c.args.kinds.now c.requires.meanings in
     rw (← c.index-goals-place.is) at (c.requires.made c.loop-place.place c.index-goals-place.result (omega (arith, same, c.loop-place-test.true)))
 
-pub returns-then-left-gt0 : goal.returns-then-left-gt0
-returns-then-left-gt0 c =
+pub returns-then-left-gt0-clause-outcome : goal.returns-then-left-gt0-clause-outcome
+returns-then-left-gt0-clause-outcome c =
     let front = same_front (λ g. any_meaning g c.args.case.now) (λ k. meaning_of k c.args.case.now) c.args.goals.now c.args.kinds.now c.requires.meanings c.loop-place.place in
     let here = same_at (λ g. any_meaning g c.args.case.now) (λ k. meaning_of k c.args.case.now) c.args.goals.now c.args.kinds.now c.requires.meanings
     c.loop-place.place c.index-goals-place.result Evacuation (get_or c.args.kinds.now c.loop-place.place Evacuation) c.loop-place-test.true c.index-goals-place.is refl in
@@ -51,6 +54,22 @@ returns-then-left-gt0 c =
     _ c.measure-left.result c.in_ok-push.ensures.items refl
     (rw here at (sym c.if-is_hard.ensures))
     (rw (here, c.in_ok-actions.ensures.end, c.loop-place.invariant.book_is) at c.measure-left.ensures.value) c.if-left-gt0.true
+
+pub returns-then-left-gt0-clause-firsts : goal.returns-then-left-gt0-clause-firsts
+returns-then-left-gt0-clause-firsts c =
+    let front = same_front (λ g. any_meaning g c.args.case.now) (λ k. meaning_of k c.args.case.now) c.args.goals.now c.args.kinds.now c.requires.meanings c.loop-place.place in
+    let here = same_at (λ g. any_meaning g c.args.case.now) (λ k. meaning_of k c.args.case.now) c.args.goals.now c.args.kinds.now c.requires.meanings
+    c.loop-place.place c.index-goals-place.result Evacuation (get_or c.args.kinds.now c.loop-place.place Evacuation) c.loop-place-test.true c.index-goals-place.is refl in
+    record {
+      each = rw c.in_ok-push.ensures.items
+          (firsts_more c.args.case.now c.args.start.now c.args.kinds.now c.loop-place.turns.items c.loop-place.place
+          c.loop-place.invariant.goals_are c.loop-place.invariant.turns_are c.requires.belongs Evacuation _ c.in_ok-actions.actions c.loop-place-test.true refl
+          (rw (front, here, c.loop-place.invariant.book_is) at c.in_ok-actions.ensures.turn) c.loop-place.invariant.firsts
+          (rw (front, here, c.loop-place.invariant.book_is) at c.in_ok-actions.ensures.firsts));
+    }
+
+pub returns-clause-firsts : goal.returns-clause-firsts
+returns-clause-firsts c = record { each = c.loop-place.invariant.firsts }
 
 zero_from : (n : ℕ) → n ≤ 0 → n ≡ 0
 zero_from n h = omega arith
@@ -84,10 +103,16 @@ loop-place-preserved c =
             ← c.loop-place.invariant.book_is,
           ) c.in_ok-actions.ensures.end;
       belongs = c.in_ok-actions.ensures.belongs;
+      firsts =
+          rw c.in_ok-push.ensures.items
+          (firsts_more c.args.case.now c.args.start.now c.args.kinds.now c.loop-place.turns.items c.loop-place.place
+          c.loop-place.invariant.goals_are c.loop-place.invariant.turns_are c.requires.belongs Evacuation _ c.in_ok-actions.actions c.loop-place-test.true refl turn
+          c.loop-place.invariant.firsts (rw (front, here, c.loop-place.invariant.book_is) at c.in_ok-actions.ensures.firsts));
+      order_is = c.in_ok-actions.ensures.order;
     }
 
-pub returns : goal.returns
-returns c =
+pub returns-clause-outcome : goal.returns-clause-outcome
+returns-clause-outcome c =
     is_plan c.args.case.now c.args.start.now c.args.kinds.now c.loop-place.turns.items c.loop-place.place
     c.loop-place.invariant.goals_are c.loop-place.invariant.turns_are c.requires.belongs _ c.into_lists-2.result refl refl c.loop-place-test.false
     (rw c.into_lists-2.ensures c.loop-place.invariant.book_is) (rw c.into_lists-2.ensures c.loop-place.invariant.belongs.lists_belong)

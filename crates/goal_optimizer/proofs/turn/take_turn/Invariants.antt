@@ -1,4 +1,7 @@
 use Rattle.std.proofs.Common.{map, ◌≡◌}
+use Rattle.candidate_order.specs.Order.{IsOrderOf}
+use Rattle.candidate_order.specs.Scan.{AreWeights}
+use Rattle.goal_optimizer.specs.Firsts.{FirstSteps}
 use Rattle.plan_terms.specs.Belongs.{IsBookOf}
 use Rattle.plan_terms.specs.Effect.{after_all}
 use Rattle.plan_terms.specs.Goal.{measure}
@@ -8,8 +11,11 @@ use Rattle.goal_optimizer.proofs.turn.take_turn.Given as goal
 abbrev pub invariant-scan : goal.invariant-scan
 invariant-scan g l = record {
   steps : Steps l.case (map (λ x. g.G.Goal.meaning x l.case) l.earlier) (g.G.Goal.meaning l.goal l.case) l.initial.book.lists l.actions;
+  firsts : FirstSteps l.case (map (λ x. g.G.Goal.meaning x l.case) l.earlier) (g.G.Goal.meaning l.goal l.case) l.initial.book.lists l.actions;
   book_is : l.book.lists ≡ after_all l.actions l.initial.book.lists;
   belongs : IsBookOf l.case l.book;
+  order_is : IsOrderOf l.case l.book.lists l.order;
+  weights_are : AreWeights g.G.Goal.weighs l.earlier l.case.parts l.scan.weights.items;
 }
 
 abbrev pub decreases-scan : goal.decreases-scan

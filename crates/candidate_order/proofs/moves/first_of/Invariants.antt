@@ -1,8 +1,0 @@
-use Rattle.std.proofs.Common.{ℕ, map, take}
-use Rattle.std.specs.List.{All}
-use Rattle.plan_terms.specs.Trace.{Step}
-use Rattle.candidate_order.specs.CandidateList.{moves_of_replica, NoStep}
-use Rattle.candidate_order.proofs.moves.first_of.Given as goal
-
-abbrev pub invariant-loop-part : goal.invariant-loop-part
-invariant-loop-part g l = All (λ (p : ℕ). NoStep l.case (map (λ x. g.G.Goal.meaning x l.case) l.earlier) (g.G.Goal.meaning l.goal l.case) l.book.lists (moves_of_replica l.case l.source.id p)) (take l.part-index l.source.replicas.items)

@@ -1,0 +1,176 @@
+// What is known before candidates are tried.
+ghost use Rattle.std.specs.Prelude.{◌≡◌, ◌<◌, ℕ, true, false, IfOk, IsTrue, map, length};
+ghost use Rattle.std.specs.List.{All};
+ghost use Rattle.candidate_order.specs.Looks.{is_cold, look_weight, look_whole, IsWeighed};
+ghost use Rattle.candidate_order.specs.Scan.{IsRow, AreWeights, IsScan};
+ghost use Rattle.goal_terms.specs.declared.heat.Heat.TheVariants as heat;
+ghost use Rattle.goal_terms.specs.PerBroker.{id_at, ids_of};
+ghost use Rattle.plan_terms.specs.Belongs.{IsBookOf};
+
+use crate::looks::{rooms_of, weights_of, wholes_of};
+use load_model::{Case, LoadBook, Memory};
+use move_actions::{Goal, Heat, Room};
+use std::alloc::Global;
+
+/// What the places of a partition weigh for the earlier goals: 0 for one without a quantity.
+#[derive(Drop)]
+pub struct PartWeights {
+    pub lead: Vec<u64>,
+    pub follow: Vec<u64>,
+}
+
+/// What is kept of one broker while candidates are tried.
+#[derive(Drop)]
+pub struct Row {
+    /// The broker's id.
+    pub id: u32,
+    /// Its room for each earlier goal: no limit for one without a quantity.
+    pub rooms: Vec<Room>,
+    /// Where its quantity lies for the goal at hand.
+    pub heat: Heat,
+}
+
+/// What is known before candidates are tried.
+#[derive(Drop)]
+pub struct Scan {
+    /// Of each partition. No action changes it.
+    pub weights: Vec<PartWeights>,
+    /// Of each broker, in their order.
+    pub rows: Vec<Row>,
+}
+
+// What the places of one partition weigh.
+fn part_weights<G: Goal>(
+    alloc: Global,
+    case: &Case,
+    earlier: &[G],
+    part: u32,
+) -> Result<PartWeights, Memory>
+    requires made { All (λ g. G.made_for g case.now) earlier.now }
+    requires part { part < length case.now.parts }
+    ensures { IfOk result (λ w. IsWeighed G.weighs earlier.now case.now.parts part w.lead.items w.follow.items) }
+{
+    let lead = weights_of(alloc, case, earlier, part, true)?;
+    let follow = weights_of(alloc, case, earlier, part, false)?;
+    Ok(PartWeights { lead, follow })
+}
+
+/// What the places of each partition weigh for the earlier goals.
+pub fn all_weights<G: Goal>(
+    alloc: Global,
+    case: &Case,
+    earlier: &[G],
+) -> Result<Vec<PartWeights>, Memory>
+    requires { All (λ g. G.made_for g case.now) earlier.now }
+    ensures { IfOk result (λ v. AreWeights G.weighs earlier.now case.now.parts v.items) }
+{
+    let mut weights = Vec::new(alloc);
+    let end = case.parts().len() as u32;
+    for part in 0..end {
+        let of_part = part_weights(alloc, case, earlier, part)?;
+        weights.push(of_part)?;
+    }
+    Ok(weights)
+}
+
+/// What the first place of a partition weighs for the earlier goals, or each other place.
+pub(crate) fn column<'a, G: Goal>(
+    case: &Case,
+    earlier: &[G],
+    weights: &'a [PartWeights],
+    part: u32,
+    first: bool,
+) -> &'a [u64]
+    requires weights { AreWeights G.weighs earlier.now case.now.parts weights.now }
+    requires part { part < length case.now.parts }
+    ensures { result.now ≡ map (λ g. look_weight (G.weighs g) case.now.parts part first) earlier.now }
+{
+    let _brokers = case.brokers();
+    let _goals = earlier.len();
+    let of_part = &weights[part as usize];
+    if first {
+        of_part.lead.as_slice()
+    } else {
+        of_part.follow.as_slice()
+    }
+}
+
+// What is kept of the broker at a place.
+fn row_at<G: Goal>(
+    alloc: Global,
+    case: &Case,
+    book: &LoadBook,
+    earlier: &[G],
+    goal: &G,
+    wholes: &[u128],
+    broker: usize,
+) -> Result<Row, Memory>
+    requires made { All (λ g. G.made_for g case.now) earlier.now }
+    requires made_goal { G.made_for goal.now case.now }
+    requires belongs { IsBookOf case.now book.now }
+    requires wholes { wholes.now ≡ map (λ g. look_whole (G.weighs g) case.now.parts book.now.lists) earlier.now }
+    requires broker { broker < length case.now.brokers }
+    ensures id { IfOk result (λ r. r.id ≡ id_at case.now.brokers broker) }
+    ensures row { IfOk result (IsRow G.weighs (λ g. G.room_at g case.now book.now.lists) (G.heat_at goal.now case.now book.now.lists) earlier.now) }
+{
+    let id = case.brokers()[broker].id;
+    let rooms = rooms_of(alloc, case, book, earlier, wholes, broker)?;
+    let heat = goal.heat(case, book, broker);
+    Ok(Row { id, rooms, heat })
+}
+
+/// What is kept of each broker, in their order.
+pub fn all_rows<G: Goal>(
+    alloc: Global,
+    case: &Case,
+    book: &LoadBook,
+    earlier: &[G],
+    goal: &G,
+) -> Result<Vec<Row>, Memory>
+    requires made { All (λ g. G.made_for g case.now) earlier.now }
+    requires made_goal { G.made_for goal.now case.now }
+    requires belongs { IsBookOf case.now book.now }
+    ensures brokers { IfOk result (λ v. map (λ (r : Row). r.id) v.items ≡ ids_of case.now.brokers) }
+    ensures rows { IfOk result (λ v. All (IsRow G.weighs (λ g. G.room_at g case.now book.now.lists) (G.heat_at goal.now case.now book.now.lists) earlier.now) v.items) }
+{
+    let wholes = wholes_of(alloc, case, book, earlier)?;
+    let mut rows = Vec::new(alloc);
+    let end = case.brokers().len();
+    for broker in 0..end {
+        let row = row_at(alloc, case, book, earlier, goal, &wholes, broker)?;
+        rows.push(row)?;
+    }
+    Ok(rows)
+}
+
+impl Scan {
+    /// What no action changes.
+    pub fn new<G: Goal>(alloc: Global, case: &Case, earlier: &[G]) -> Result<Scan, Memory>
+        requires { All (λ g. G.made_for g case.now) earlier.now }
+        ensures { IfOk result (λ s. AreWeights G.weighs earlier.now case.now.parts s.weights.items) }
+    {
+        let weights = all_weights(alloc, case, earlier)?;
+        Ok(Scan {
+            weights,
+            rows: Vec::new(alloc),
+        })
+    }
+}
+
+fn is_cold(heat: Heat) -> bool
+    ensures { result ≡ is_cold heat }
+{
+    matches!(heat, Heat::Cold)
+}
+
+// Whether no broker lies outside its bounds.
+pub(crate) fn all_cold(rows: &[Row]) -> bool
+    ensures { IsTrue result → All (λ r. r.heat ≡ heat.Cold) rows.now }
+{
+    for row in rows {
+        if !is_cold(row.heat) {
+            return false;
+        }
+    }
+    true
+}

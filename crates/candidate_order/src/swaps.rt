@@ -1,0 +1,186 @@
+// The first swap of one replica that serves.
+ghost use Rattle.std.specs.Prelude.{◌≡◌, ◌<◌, ◌↔◌, ℕ, IsTrue, MatchOption, option_map, map, length};
+ghost use Rattle.std.specs.List.{All};
+ghost use Rattle.candidate_order.specs.CandidateList.{candidates_at, replicas_of, NoStep};
+ghost use Rattle.candidate_order.specs.First.{IsFirst};
+ghost use Rattle.candidate_order.specs.Looks.{look_weight, may_meet, may_swap};
+ghost use Rattle.candidate_order.specs.Order.{IsOrderOf};
+ghost use Rattle.candidate_order.specs.Scan.{IsRow, IsScan, AreWeights};
+ghost use Rattle.candidate_order.specs.declared.plain.Kind.TheVariants as kind;
+ghost use Rattle.goal_terms.specs.Quantity.{part_weight};
+ghost use Rattle.plan_terms.specs.Belongs.{IsBookOf};
+ghost use Rattle.plan_terms.specs.Cluster.{list_of, leads};
+ghost use Rattle.plan_terms.specs.Trace.{Step};
+ghost use Rattle.plan_terms.specs.declared.actions.Action.{Action};
+
+use crate::kept::{PartWeights, Row, Scan, column};
+use crate::order::Order;
+use crate::ranks::is_first;
+use crate::trades::trade_serves;
+use load_model::{Case, LoadBook};
+use move_actions::{Action, Goal, Heat};
+
+// Whether a swap of the two brokers can help the goal at all.
+fn may_meet(own: Option<u64>, source: Heat, target: Heat) -> bool
+    ensures { result ≡ may_meet own source target }
+{
+    let source_out = matches!(source, Heat::Above) || matches!(source, Heat::Below);
+    let target_out = matches!(target, Heat::Above) || matches!(target, Heat::Below);
+    match own {
+        Some(_) => source_out || target_out,
+        None => !(matches!(source, Heat::Cold) && matches!(target, Heat::Cold)),
+    }
+}
+
+// Whether a swap of these weights can help the goal at all.
+fn may_swap(own: Option<u64>, back: Option<u64>, source: Heat, target: Heat) -> bool
+    ensures { result ≡ may_swap own back source target }
+{
+    match (own, back) {
+        (Some(out), Some(back)) => {
+            if back < out {
+                matches!(source, Heat::Above) || matches!(target, Heat::Below)
+            } else {
+                out < back && (matches!(target, Heat::Above) || matches!(source, Heat::Below))
+            }
+        }
+        _ => !(matches!(source, Heat::Cold) && matches!(target, Heat::Cold)),
+    }
+}
+
+// Whether a swap is legal, each earlier goal accepts it, and it lessens the goal.
+fn swap_serves<G: Goal>(
+    case: &Case,
+    book: &LoadBook,
+    earlier: &[G],
+    goal: &G,
+    weights: &[PartWeights],
+    part: u32,
+    source: &Row,
+    outs: &[u64],
+    own: Option<u64>,
+    other: u32,
+    target: &Row,
+) -> bool
+    requires made { All (λ g. G.made_for g case.now) earlier.now }
+    requires made_goal { G.made_for goal.now case.now }
+    requires belongs { IsBookOf case.now book.now }
+    requires weights { AreWeights G.weighs earlier.now case.now.parts weights.now }
+    requires part { part < length case.now.parts }
+    requires source { IsRow G.weighs (λ g. G.room_at g case.now book.now.lists) (G.heat_at goal.now case.now book.now.lists) earlier.now source.now }
+    requires outs { outs.now ≡ map (λ g. look_weight (G.weighs g) case.now.parts part (leads (list_of book.now.lists part) source.now.id)) earlier.now }
+    requires own { own ≡ option_map (λ w. part_weight w case.now.parts part (leads (list_of book.now.lists part) source.now.id)) (G.weighs goal.now) }
+    requires other { other < length case.now.parts }
+    requires target { IsRow G.weighs (λ g. G.room_at g case.now book.now.lists) (G.heat_at goal.now case.now book.now.lists) earlier.now target.now }
+    ensures { IsTrue result ↔ Step case.now (map (λ g. G.meaning g case.now) earlier.now) (G.meaning goal.now case.now) book.now.lists (Action.Swap part source.now.id other target.now.id) }
+{
+    let _brokers = case.brokers();
+    let _lists = book.lists();
+    if part >= other {
+        return false;
+    }
+    let first = is_first(book.list(other as usize), target.id);
+    let back = goal.weight(case, other, first);
+    if !may_swap(own, back, source.heat, target.heat) {
+        return false;
+    }
+    let action = Action::Swap {
+        part,
+        from: source.id,
+        other,
+        to: target.id,
+    };
+    let backs = column(case, earlier, weights, other, first);
+    let givers = source.rooms.as_slice();
+    let takers = target.rooms.as_slice();
+    trade_serves(
+        case, book, earlier, goal, part, action, outs, backs, givers, takers,
+    )
+}
+
+// The first swap of one replica with those of one broker that serves.
+fn first_with<G: Goal>(
+    case: &Case,
+    book: &LoadBook,
+    earlier: &[G],
+    goal: &G,
+    weights: &[PartWeights],
+    part: u32,
+    source: &Row,
+    outs: &[u64],
+    own: Option<u64>,
+    target: &Row,
+    others: &[u32],
+) -> Option<Action>
+    requires made { All (λ g. G.made_for g case.now) earlier.now }
+    requires made_goal { G.made_for goal.now case.now }
+    requires belongs { IsBookOf case.now book.now }
+    requires weights { AreWeights G.weighs earlier.now case.now.parts weights.now }
+    requires part { part < length case.now.parts }
+    requires source { IsRow G.weighs (λ g. G.room_at g case.now book.now.lists) (G.heat_at goal.now case.now book.now.lists) earlier.now source.now }
+    requires outs { outs.now ≡ map (λ g. look_weight (G.weighs g) case.now.parts part (leads (list_of book.now.lists part) source.now.id)) earlier.now }
+    requires own { own ≡ option_map (λ w. part_weight w case.now.parts part (leads (list_of book.now.lists part) source.now.id)) (G.weighs goal.now) }
+    requires target { IsRow G.weighs (λ g. G.room_at g case.now book.now.lists) (G.heat_at goal.now case.now book.now.lists) earlier.now target.now }
+    requires others { All (λ q. q < length case.now.parts) others.now }
+    ensures { MatchOption result
+        (NoStep case.now (map (λ g. G.meaning g case.now) earlier.now) (G.meaning goal.now case.now) book.now.lists (map (λ q. Action.Swap part source.now.id q target.now.id) others.now))
+        (λ a. IsFirst (Step case.now (map (λ g. G.meaning g case.now) earlier.now) (G.meaning goal.now case.now) book.now.lists) (map (λ q. Action.Swap part source.now.id q target.now.id) others.now) a) }
+{
+    let _brokers = case.brokers();
+    if !may_meet(own, source.heat, target.heat) {
+        return None;
+    }
+    for other in others {
+        if swap_serves(
+            case, book, earlier, goal, weights, part, source, outs, own, *other, target,
+        ) {
+            return Some(Action::Swap {
+                part,
+                from: source.id,
+                other: *other,
+                to: target.id,
+            });
+        }
+    }
+    None
+}
+
+/// The first swap of one replica that serves, by the order of the brokers and of the replicas of each.
+pub fn first_swap<G: Goal>(
+    case: &Case,
+    book: &LoadBook,
+    order: &Order,
+    earlier: &[G],
+    goal: &G,
+    scan: &Scan,
+    part: u32,
+    source: &Row,
+) -> Option<Action>
+    requires made { All (λ g. G.made_for g case.now) earlier.now }
+    requires made_goal { G.made_for goal.now case.now }
+    requires belongs { IsBookOf case.now book.now }
+    requires order { IsOrderOf case.now book.now.lists order.now }
+    requires scan { IsScan G.weighs (λ g. G.room_at g case.now book.now.lists) (G.heat_at goal.now case.now book.now.lists) earlier.now case.now scan.now }
+    requires part { part < length case.now.parts }
+    requires source { IsRow G.weighs (λ g. G.room_at g case.now book.now.lists) (G.heat_at goal.now case.now book.now.lists) earlier.now source.now }
+    ensures { MatchOption result
+        (NoStep case.now (map (λ g. G.meaning g case.now) earlier.now) (G.meaning goal.now case.now) book.now.lists (candidates_at kind.Swaps case.now book.now.lists source.now.id part))
+        (λ a. IsFirst (Step case.now (map (λ g. G.meaning g case.now) earlier.now) (G.meaning goal.now case.now) book.now.lists) (candidates_at kind.Swaps case.now book.now.lists source.now.id part) a) }
+{
+    let _lists = book.lists();
+    let first = is_first(book.list(part as usize), source.id);
+    let own = goal.weight(case, part, first);
+    let weights = scan.weights.as_slice();
+    let outs = column(case, earlier, weights, part, first);
+    let rows = scan.rows.as_slice();
+    for (k, target) in rows.iter().enumerate() {
+        let others = order.row(k);
+        let found = first_with(
+            case, book, earlier, goal, weights, part, source, outs, own, target, others,
+        );
+        if let Some(action) = found {
+            return Some(action);
+        }
+    }
+    None
+}
