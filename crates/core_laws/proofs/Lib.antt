@@ -21,3 +21,7 @@ pub mod Refusals
 pub mod Lifts
 pub mod Replies
 pub mod Closing
+pub mod Given
+pub mod Follows
+pub mod Room
+pub mod Problems

@@ -1,4 +1,5 @@
 // Laws of the core, each the contract of a function that does nothing.
+ghost use Rattle.core_laws.specs.Books.{AdminFollows, EntriesGiveOneEach, ProblemsBelong, RoomIsKept};
 ghost use Rattle.core_laws.specs.Events.{ClosingWasAsked, EndedWorkIsLess, EventsMoveExecutor, ExecutingIsExact, HistoriesKeepCaps, HistoriesShowLists, OnlyPlansRaiseWork, OnlyRequestsMeetExecution, OthersRaiseNone, PlansCanBeLaunched, RefusalsKeepState, StartsKeepCapsInForce, WorkIsThere};
 ghost use Rattle.core_laws.specs.Laws.{EachEventKeeps, EventsKeepTasks, EventsKeepTickets, EventsKeepValid, HistoriesAreSound, MovesKeepTasks, OpeningHasTasks, OpeningIsSound, PlansMeetNoExecution, SettledListsBelong};
 
@@ -42,4 +43,14 @@ pub fn every_event()
     ensures refusals { RefusalsKeepState }
     ensures requests { OnlyRequestsMeetExecution }
     ensures executing { ExecutingIsExact }
+{}
+
+/// What a book rests on: no more leases and tickets were given than its journal has entries; the room that the journal keeps
+/// suffices for the entries that end them; with the call that goes with each event the admin's lists stay the state's; and the
+/// lists that a planner is given belong to its case.
+pub fn every_book()
+    ensures given { EntriesGiveOneEach }
+    ensures room { RoomIsKept }
+    ensures follows { AdminFollows }
+    ensures problems { ProblemsBelong }
 {}

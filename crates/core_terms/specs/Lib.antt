@@ -14,3 +14,4 @@ pub mod History
 pub mod Faults
 pub mod Sound
 pub mod Examples
+pub mod Writes

@@ -118,6 +118,14 @@ impl Assign {
         Ok(Assign { lists })
     }
 
+    /// The assignment of these lists: at most 10,000, each of 1 to 8 distinct members.
+    pub fn of(lists: Vec<Replicas>) -> Assign
+        requires { IsAssignment lists.items }
+        ensures { result ≡ lists.items }
+    {
+        Assign { lists }
+    }
+
     /// The number of lists, at most 10,000.
     pub fn len(&self) -> usize
         ensures value { result ≡ length self.now }

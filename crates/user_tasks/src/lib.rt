@@ -9,6 +9,6 @@ mod table;
 mod tests;
 
 pub use ask::{Ask, Op, Query};
-pub use ids::{id_text, number_of, task_id};
+pub use ids::{id_text, ids_are_distinct, number_of, task_id};
 pub use lists::ListOf;
 pub use table::{AdmitFault, FindFault, Status, TaskTable, UserTask};
