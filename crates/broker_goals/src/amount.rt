@@ -1,7 +1,7 @@
 // The quantities of brokers.
 ghost use Rattle.goal_terms.specs.Limits.{SmallLoads, SmallWeights};
 ghost use Rattle.goal_terms.specs.PerBroker.{id_at};
-ghost use Rattle.goal_terms.specs.Quantity.{Weights, weight_of, quantity, replica_weights, leader_weights, load_weights, potential_out_weights, leader_in_weights};
+ghost use Rattle.goal_terms.specs.Quantity.{Weights, weight_of, quantity, total, replica_weights, leader_weights, load_weights, potential_out_weights, leader_in_weights};
 ghost use Rattle.plan_terms.specs.Belongs.{IsBookOf};
 ghost use Rattle.plan_terms.specs.Cluster.{Cluster};
 ghost use Rattle.plan_terms.specs.declared.cluster.Part.{Part};
@@ -25,6 +25,12 @@ pub trait Amount {
         requires belongs { IsBookOf case.now book.now }
         requires broker { broker < length case.now.brokers }
         ensures { result ≡ quantity (weights self.now) case.now.parts (id_at case.now.brokers broker) book.now.lists };
+
+    /// What all brokers carry together, lost ones too.
+    fn total(&self, case: &Case, book: &LoadBook) -> u128
+        requires made { made_for self.now case.now }
+        requires belongs { IsBookOf case.now book.now }
+        ensures { result ≡ total (weights self.now) case.now.parts book.now.lists };
 
     /// What one replica of a partition carries, as the leader or as a follower.
     fn weight(&self, part: &Part, leads: bool) -> u64
@@ -57,6 +63,10 @@ impl Amount for Replicas {
         u128::from(book.count(broker))
     }
 
+    fn total(&self, _case: &Case, book: &LoadBook) -> u128 {
+        u128::from(book.total_count())
+    }
+
     fn weight(&self, _part: &Part, _leads: bool) -> u64 {
         1
     }
@@ -84,6 +94,10 @@ impl Amount for Leaders {
     #[tactic(auto, using(plan_terms::proofs::SameLemmas::brokers_same))]
     fn amount(&self, _case: &Case, book: &LoadBook, broker: usize) -> u128 {
         u128::from(book.leaders(broker))
+    }
+
+    fn total(&self, _case: &Case, book: &LoadBook) -> u128 {
+        u128::from(book.total_leaders())
     }
 
     fn weight(&self, _part: &Part, leads: bool) -> u64 {
@@ -115,6 +129,10 @@ impl<R: Resource> Amount for Load<R> {
     #[tactic(auto, using(plan_terms::proofs::SameLemmas::brokers_same))]
     fn amount(&self, _case: &Case, book: &LoadBook, broker: usize) -> u128 {
         book.load(broker, R::place())
+    }
+
+    fn total(&self, _case: &Case, book: &LoadBook) -> u128 {
+        book.total_load(R::place())
     }
 
     fn weight(&self, part: &Part, leads: bool) -> u64 {
@@ -152,6 +170,10 @@ impl Amount for PotentialOut {
         book.potential_out(broker)
     }
 
+    fn total(&self, _case: &Case, book: &LoadBook) -> u128 {
+        book.total_potential_out()
+    }
+
     fn weight(&self, part: &Part, _leads: bool) -> u64 {
         part.loads.lead[2]
     }
@@ -179,6 +201,10 @@ impl Amount for LeaderIn {
     #[tactic(auto, using(plan_terms::proofs::SameLemmas::brokers_same))]
     fn amount(&self, _case: &Case, book: &LoadBook, broker: usize) -> u128 {
         book.leader_in(broker)
+    }
+
+    fn total(&self, _case: &Case, book: &LoadBook) -> u128 {
+        book.total_leader_in()
     }
 
     fn weight(&self, part: &Part, leads: bool) -> u64 {

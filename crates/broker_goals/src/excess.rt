@@ -108,12 +108,8 @@ pub fn total_of<A: Amount>(kind: &A, case: &Case, book: &LoadBook) -> u128
     ensures value { result ≡ total (A.weights kind.now) case.now.parts book.now.lists }
     ensures small { result < 2 ^ 49 }
 {
-    let brokers = case.brokers();
-    let mut all = 0u128;
-    for place in 0..brokers.len() {
-        all += kind.amount(case, book, place);
-    }
-    all
+    let _brokers = case.brokers();
+    kind.total(case, book)
 }
 
 // An amount, times the scale of the bounds.

@@ -59,7 +59,7 @@ impl<A: Amount, B: Band, S: Strength> Goal for BrokerGoal<A, B, S> {
     ghost use Rattle.goal_terms.proofs.BoundLemmas.{per_broker-fits_120_bits};
     ghost use Rattle.goal_terms.proofs.CaseLemmas.{Limits-case};
     ghost use Rattle.goal_terms.proofs.PairLemmas.{broker-cold_pairs, broker-idle_trades};
-    ghost use Rattle.goal_terms.proofs.RoomLemmas.{broker-rooms_decide};
+    ghost use Rattle.goal_terms.proofs.RoomLemmas.{broker-rooms_decide, broker-rooms_stay};
 
     ghost meaning = { λ g c. per_broker S.HARD (A.weights g.kind) (B.bounds g.band c) c };
 
@@ -120,5 +120,5 @@ impl<A: Amount, B: Band, S: Strength> Goal for BrokerGoal<A, B, S> {
 
     ghost rooms_decide = { λ g c lists _ is_case fits. let limits = Limits-case c is_case in broker-rooms_decide S.HARD (A.weights g.kind) (B.bounds g.band c) c lists limits fits (λ k d l. A.small_weights g.kind (get_or c.parts k d) (limits.loads k d l)) };
 
-    ghost small_weights = { λ g p h. A.small_weights g.kind p h };
+    ghost rooms_stay = { λ g c lists _ belongs a fit k not_giver not_taker. broker-rooms_stay (A.weights g.kind) (B.bounds g.band c) c lists a belongs fit k not_giver not_taker };
 }

@@ -4,41 +4,23 @@ ghost use Rattle.load_model.specs.Places.{topic_at};
 ghost use Rattle.plan_terms.specs.Belongs.{IsBookOf};
 ghost use Rattle.plan_terms.specs.Faults.{topics};
 ghost use Rattle.plan_terms.specs.Fits.{fits};
-ghost use Rattle.std.specs.List.{list_any};
-ghost use Rattle.std.specs.Prelude.{◌≡◌, ◌<◌, ◌++◌, ◌∷◌, [], IfOk, IsTrue, OnOk, ℕ, bytes_eq, length, if◌then◌else◌};
+ghost use Rattle.std.specs.Prelude.{◌≡◌, ◌<◌, IfOk, IsTrue, ℕ, length};
 
-use load_model::{Case, LoadBook, Memory, Part, Topic};
+use load_model::{Case, LoadBook, Memory, Topic};
 use plan_terms::Action;
 use std::alloc::Global;
 
-fn has_topic(found: &[Topic], topic: &Topic) -> bool
-    ensures { result ≡ list_any (bytes_eq topic.now) found.now }
-{
-    for known in found {
-        if topic.as_str() == known.as_str() {
-            return true;
-        }
-    }
-    false
-}
-
-// Adds a topic that isn't there yet.
-fn push_new(alloc: Global, found: &mut Vec<Topic>, topic: &Topic) -> Result<(), Memory>
-    ensures { OnOk result (found.new.items ≡ if list_any (bytes_eq topic.now) found.old.items then found.old.items else found.old.items ++ topic.now ∷ []) }
-{
-    if !has_topic(found.as_slice(), topic) {
-        found.push(topic.copy(alloc)?)?;
-    }
-    Ok(())
-}
-
 /// The topics, in the order of their first partitions.
-pub fn topics_of(alloc: Global, parts: &[Part]) -> Result<Vec<Topic>, Memory>
-    ensures { IfOk result (λ v. v.items ≡ topics parts.now) }
+pub fn topics_of(alloc: Global, case: &Case) -> Result<Vec<Topic>, Memory>
+    ensures { IfOk result (λ v. v.items ≡ topics case.now.parts) }
 {
+    let parts = case.parts();
     let mut found = Vec::new(alloc);
-    for part in parts {
-        push_new(alloc, &mut found, &part.topic)?;
+    for (place, part) in parts.iter().enumerate() {
+        // The first partition of the next topic.
+        if case.topic(place) == found.len() {
+            found.push(part.topic.copy(alloc)?)?;
+        }
     }
     Ok(found)
 }

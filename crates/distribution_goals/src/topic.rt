@@ -56,6 +56,11 @@ impl<'t> Amount for TopicReplicas<'t> {
         u128::from(book.topic_count(self.place, broker))
     }
 
+    #[tactic(auto, using(plan_terms::proofs::SameLemmas::topics_same))]
+    fn total(&self, _case: &Case, book: &LoadBook) -> u128 {
+        u128::from(book.total_topic_count(self.place))
+    }
+
     fn weight(&self, part: &Part, _leads: bool) -> u64 {
         u64::from(part.topic.as_str() == self.name.as_str())
     }
@@ -78,7 +83,7 @@ impl TopicReplicaDistributionGoal {
     {
         Ok(TopicReplicaDistributionGoal {
             band: Even::new(case),
-            topics: topics_of(alloc, case.parts())?,
+            topics: topics_of(alloc, case)?,
         })
     }
 
@@ -219,5 +224,5 @@ impl Goal for TopicReplicaDistributionGoal {
 
     ghost rooms_decide = { λ _ _ _ _ _ _. tt };
 
-    ghost small_weights = { λ _ _ _. tt };
+    ghost rooms_stay = { λ _ _ _ _ _ _ _ _ _ _ _. free };
 }

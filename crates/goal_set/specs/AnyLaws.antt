@@ -1,18 +1,21 @@
 -- The laws of a goal of any kind.
-use Rattle.std.proofs.Common.{◌<◌, ◌≤◌, ◌^◌, Bool, true, false, List, length, get_or, ℕ}
-use Rattle.std.specs.Prelude.{IfSome}
+use Rattle.std.proofs.Common.{◌≡◌, refl, ◌<◌, ◌≤◌, ◌^◌, Bool, true, false, List, length, get_or, ℕ}
+use Rattle.std.specs.Prelude.{IfSome, IsTrue}
 use Rattle.plan_terms.specs.Belongs.{Belongs}
 use Rattle.plan_terms.specs.Cluster.{Cluster, Lists}
+use Rattle.plan_terms.specs.Effect.{after}
 use Rattle.plan_terms.specs.Faults.{IsCase}
+use Rattle.plan_terms.specs.Fits.{fits}
 use Rattle.plan_terms.specs.Goal.{measure, per_partition}
 use Rattle.plan_terms.specs.Racks.{rack_excess}
+use Rattle.plan_terms.specs.declared.actions.Action.{Action}
 use Rattle.plan_terms.specs.declared.cluster.Part.{Part}
 use Rattle.plan_terms.proofs.PartitionLemmas.{per_partition-fits_120_bits}
 use Rattle.plan_terms.proofs.RackLemmas.{rack_excess-le}
 use Rattle.goal_terms.specs.Bands.{units_of, whole_cap, at_most, within_capacity, even, near_use, below_use}
 use Rattle.goal_terms.specs.Goals.{ratio_at}
 use Rattle.goal_terms.specs.Limits.{SmallLoads, SmallWeights, SmallBounds}
-use Rattle.goal_terms.specs.Pairs.{ColdPairs, IdleTrades}
+use Rattle.goal_terms.specs.Pairs.{ColdPairs, IdleTrades, giver, taker}
 use Rattle.goal_terms.specs.Partitions.{demoted_first, lost_members}
 use Rattle.goal_terms.specs.PerTopic.{replica_rule}
 use Rattle.goal_terms.specs.PerBroker.{Bounds, per_broker}
@@ -22,7 +25,7 @@ use Rattle.goal_terms.proofs.BoundLemmas.{per_broker-fits_120_bits, replica-smal
 use Rattle.goal_terms.proofs.CaseLemmas.{Limits-case}
 use Rattle.goal_terms.proofs.LeastLemmas.{least-small, least-cold_pairs}
 use Rattle.goal_terms.proofs.PairLemmas.{broker-cold_pairs, broker-idle_trades}
-use Rattle.goal_terms.proofs.RoomLemmas.{broker-rooms_decide}
+use Rattle.goal_terms.proofs.RoomLemmas.{broker-rooms_decide, broker-rooms_stay}
 use Rattle.goal_terms.specs.Rooms.{RoomsDecide, broker_room}
 use Rattle.goal_terms.proofs.PartitionGoals.{demoted_first-le, lost_members-le}
 use Rattle.goal_terms.proofs.PartitionHeat.{partition-cold_pairs}
@@ -153,23 +156,24 @@ kind-rooms_decide kind.TopicReplicaDistribution c lists is_case fits = tt
 kind-rooms_decide kind.LeaderReplicaDistribution c lists is_case fits = broker-decides false leader_weights (even c.options.leader_balance (units_of c)) c lists leads is_case fits
 kind-rooms_decide kind.LeaderBytesInDistribution c lists is_case fits = broker-decides false leader_in_weights (below_use (ratio_at c.options.balance 1) 1 (whole_cap 1 c)) c lists inbound is_case fits
 
--- no place of a list adds more than a load value may be
-pub kind-small_weights : (k : GoalKind) (p : Part) → SmallLoads p → IfSome (any_weights k) (λ w. SmallWeights w p)
-kind-small_weights kind.Evacuation p h = tt
-kind-small_weights kind.RackAware p h = tt
-kind-small_weights kind.MinTopicLeadersPerBroker p h = tt
-kind-small_weights kind.ReplicaCapacity p h = replicas p h
-kind-small_weights kind.DiskCapacity p h = loads 3 p h
-kind-small_weights kind.NetworkInboundCapacity p h = loads 1 p h
-kind-small_weights kind.NetworkOutboundCapacity p h = loads 2 p h
-kind-small_weights kind.CpuCapacity p h = loads 0 p h
-kind-small_weights kind.Demotion p h = tt
-kind-small_weights kind.ReplicaDistribution p h = replicas p h
-kind-small_weights kind.PotentialNwOut p h = potential p h
-kind-small_weights kind.DiskUsageDistribution p h = loads 3 p h
-kind-small_weights kind.NetworkInboundUsageDistribution p h = loads 1 p h
-kind-small_weights kind.NetworkOutboundUsageDistribution p h = loads 2 p h
-kind-small_weights kind.CpuUsageDistribution p h = loads 0 p h
-kind-small_weights kind.TopicReplicaDistribution p h = tt
-kind-small_weights kind.LeaderReplicaDistribution p h = leads p h
-kind-small_weights kind.LeaderBytesInDistribution p h = inbound p h
+-- an action leaves the rooms of all brokers but its two
+pub kind-rooms_stay : (k : GoalKind) (c : Cluster) (lists : Lists) → Belongs c lists → (a : Action) → IsTrue (fits lists a)
+    → (b : ℕ) → (b ≡ giver lists a → ⊥) → (b ≡ taker a → ⊥) → any_room k c (after a lists) b ≡ any_room k c lists b
+kind-rooms_stay kind.Evacuation c lists belongs a fit b g t = refl
+kind-rooms_stay kind.RackAware c lists belongs a fit b g t = refl
+kind-rooms_stay kind.MinTopicLeadersPerBroker c lists belongs a fit b g t = refl
+kind-rooms_stay kind.ReplicaCapacity c lists belongs a fit b g t = broker-rooms_stay replica_weights (at_most c.options.max_replicas) c lists a belongs fit b g t
+kind-rooms_stay kind.DiskCapacity c lists belongs a fit b g t = broker-rooms_stay (load_weights 3) (within_capacity (ratio_at c.options.limit 3) 3) c lists a belongs fit b g t
+kind-rooms_stay kind.NetworkInboundCapacity c lists belongs a fit b g t = broker-rooms_stay (load_weights 1) (within_capacity (ratio_at c.options.limit 1) 1) c lists a belongs fit b g t
+kind-rooms_stay kind.NetworkOutboundCapacity c lists belongs a fit b g t = broker-rooms_stay (load_weights 2) (within_capacity (ratio_at c.options.limit 2) 2) c lists a belongs fit b g t
+kind-rooms_stay kind.CpuCapacity c lists belongs a fit b g t = broker-rooms_stay (load_weights 0) (within_capacity (ratio_at c.options.limit 0) 0) c lists a belongs fit b g t
+kind-rooms_stay kind.Demotion c lists belongs a fit b g t = refl
+kind-rooms_stay kind.ReplicaDistribution c lists belongs a fit b g t = broker-rooms_stay replica_weights (even c.options.replica_balance (units_of c)) c lists a belongs fit b g t
+kind-rooms_stay kind.PotentialNwOut c lists belongs a fit b g t = broker-rooms_stay potential_out_weights (within_capacity (ratio_at c.options.limit 2) 2) c lists a belongs fit b g t
+kind-rooms_stay kind.DiskUsageDistribution c lists belongs a fit b g t = broker-rooms_stay (load_weights 3) (near_use (ratio_at c.options.balance 3) 3 (whole_cap 3 c)) c lists a belongs fit b g t
+kind-rooms_stay kind.NetworkInboundUsageDistribution c lists belongs a fit b g t = broker-rooms_stay (load_weights 1) (near_use (ratio_at c.options.balance 1) 1 (whole_cap 1 c)) c lists a belongs fit b g t
+kind-rooms_stay kind.NetworkOutboundUsageDistribution c lists belongs a fit b g t = broker-rooms_stay (load_weights 2) (near_use (ratio_at c.options.balance 2) 2 (whole_cap 2 c)) c lists a belongs fit b g t
+kind-rooms_stay kind.CpuUsageDistribution c lists belongs a fit b g t = broker-rooms_stay (load_weights 0) (near_use (ratio_at c.options.balance 0) 0 (whole_cap 0 c)) c lists a belongs fit b g t
+kind-rooms_stay kind.TopicReplicaDistribution c lists belongs a fit b g t = refl
+kind-rooms_stay kind.LeaderReplicaDistribution c lists belongs a fit b g t = broker-rooms_stay leader_weights (even c.options.leader_balance (units_of c)) c lists a belongs fit b g t
+kind-rooms_stay kind.LeaderBytesInDistribution c lists belongs a fit b g t = broker-rooms_stay leader_in_weights (below_use (ratio_at c.options.balance 1) 1 (whole_cap 1 c)) c lists a belongs fit b g t

@@ -138,7 +138,7 @@ macro_rules! each_goal {
 }
 
 impl Goal for AnyGoal {
-    ghost use Rattle.goal_set.specs.AnyLaws.{any-small, kind-cold_pairs, kind-idle_trades, kind-rooms_decide, kind-small_weights};
+    ghost use Rattle.goal_set.specs.AnyLaws.{any-small, kind-cold_pairs, kind-idle_trades, kind-rooms_decide, kind-rooms_stay};
 
     ghost meaning = { λ g c. any_meaning g c };
 
@@ -194,5 +194,5 @@ impl Goal for AnyGoal {
 
     ghost rooms_decide = { λ g c lists _ is_case fits. kind-rooms_decide (kind_of g) c lists is_case fits };
 
-    ghost small_weights = { λ g p h. kind-small_weights (kind_of g) p h };
+    ghost rooms_stay = { λ g c lists _ belongs a fit k not_giver not_taker. kind-rooms_stay (kind_of g) c lists belongs a fit k not_giver not_taker };
 }

@@ -1,12 +1,14 @@
 -- Quantities are the counts and loads that they stand for.
-use Rattle.std.specs.Prelude.{if◌then◌else◌, ◌==◌, ◌*◌, cond, slice_index, bytes_eq}
+use Rattle.std.specs.Prelude.{if◌then◌else◌, ◌==◌, ◌+◌, ◌-◌, ◌*◌, cond, map, slice_index, bytes_eq}
 use Rattle.std.proofs.Common.{◌≡◌, ℕ, ◌<◌, Bool, true, false, List, [], ◌∷◌, length, suc, refl, ◌∙◌, arith, inl, inr}
 use Rattle.std.specs.List.{sum_by, count_by}
-use Rattle.std.proofs.lemmas.Bool.{cases_Bool}
+use Rattle.std.proofs.lemmas.Bool.{cases_Bool, ne_eqb}
 use Rattle.std.proofs.lemmas.List.Sums.{sum_by-cons}
 use Rattle.plan_terms.specs.Cluster.{Cluster, Lists, list_of, leads}
 use Rattle.plan_terms.specs.Load.{count, leaders, load, potential_out, leader_in, topic_count, sum_parts, list_load}
-use Rattle.goal_terms.specs.Quantity.{quantity, total, replica_weights, leader_weights, load_weights, potential_out_weights, leader_in_weights, topic_weights}
+use Rattle.goal_terms.specs.Quantity.{Weights, list_whole, quantity, total, whole, replica_weights, leader_weights, load_weights, potential_out_weights, leader_in_weights, topic_weights}
+use Rattle.plan_terms.specs.Belongs.{SameLoads}
+use Rattle.plan_terms.specs.declared.cluster.Loads.{Loads}
 use Rattle.plan_terms.specs.declared.cluster.Part.{Part}
 
 -- the plain readings: a count, the leaders, all replicas, all leaders
@@ -105,3 +107,34 @@ quantity-topic c topic b lists = sum_parts-same _ _ one c.parts lists where
 
   one : (p : Part) (list : List ℕ) → list_load ((topic_weights topic).lead p) ((topic_weights topic).follow p) b list ≡ (if bytes_eq p.topic topic then count_by (λ x. x == b) list else 0)
   one p list = of (bytes_eq p.topic topic) list
+
+-- what all brokers carry together, where clusters put the same on them
+module _ (lead follow : List ℕ → Loads → ℕ) where
+  -- what the places of one partition's list carry
+  abbrev read : Part → List ℕ → ℕ
+  read p list = if length list == 0 then 0 else lead p.topic p.loads + follow p.topic p.loads * (length list - 1)
+
+  abbrev weights_by : Weights
+  weights_by = record { lead = λ p. lead p.topic p.loads; follow = λ p. follow p.topic p.loads }
+
+  -- the places of one list
+  read-whole : (p : Part) (list : List ℕ) → read p list ≡ list_whole (lead p.topic p.loads) (follow p.topic p.loads) (length list)
+  read-whole p [] = refl
+  read-whole p (x ∷ xs) =
+      let some : (length (x ∷ xs) == 0) ≡ false = ne_eqb (suc (length xs)) 0 (λ e. absurd (omega arith)) in
+      let one : length (x ∷ xs) - 1 ≡ length xs = omega arith in
+      rw (some, one) refl
+
+  pub total-read : (c d : Cluster) (lists : Lists) → SameLoads c d → sum_parts read c.parts lists ≡ total weights_by d.parts lists
+  unfolding total
+  total-read c d lists same = by c.parts d.parts lists same.topics same.loads where
+    by : (ps qs : List Part) (ls : Lists) → map (λ p. p.topic) ps ≡ map (λ p. p.topic) qs → map (λ p. p.loads) ps ≡ map (λ p. p.loads) qs → sum_parts read ps ls ≡ whole weights_by qs (map length ls)
+    by [] [] ls t l = refl
+    by [] (q ∷ qs) ls t l = absurd (cc)
+    by (p ∷ ps) [] ls t l = absurd (cc)
+    by (p ∷ ps) (q ∷ qs) [] t l = refl
+    by (p ∷ ps) (q ∷ qs) (list ∷ ls) t l =
+        let topic : p.topic ≡ q.topic = cc in
+        let loads : p.loads ≡ q.loads = cc in
+        let rest = by ps qs ls (cc) (cc) in
+        rw (← topic, ← loads) (omega (arith, read-whole p list, rest))

@@ -45,6 +45,11 @@ impl<'t> Amount for LedInTopic<'t> {
         u128::from(book.topic_leaders(self.place, broker))
     }
 
+    #[tactic(auto, using(plan_terms::proofs::SameLemmas::topics_same))]
+    fn total(&self, _case: &Case, book: &LoadBook) -> u128 {
+        u128::from(book.total_topic_leaders(self.place))
+    }
+
     fn weight(&self, part: &Part, leads: bool) -> u64 {
         if leads {
             u64::from(part.topic.as_str() == self.name.as_str())
@@ -160,7 +165,7 @@ impl MinTopicLeadersPerBrokerGoal {
     {
         let min_leaders = case.options().min_leaders.as_slice();
         are_floors(min_leaders);
-        let topics = topics_of(alloc, case.parts())?;
+        let topics = topics_of(alloc, case)?;
         let floors = floors_of(alloc, min_leaders, &topics)?;
         Ok(MinTopicLeadersPerBrokerGoal { topics, floors })
     }
@@ -353,5 +358,5 @@ impl Goal for MinTopicLeadersPerBrokerGoal {
 
     ghost rooms_decide = { λ _ _ _ _ _ _. tt };
 
-    ghost small_weights = { λ _ _ _. tt };
+    ghost rooms_stay = { λ _ _ _ _ _ _ _ _ _ _ _. free };
 }

@@ -1,14 +1,17 @@
 -- A change of one member keeps the case.
-use Rattle.std.proofs.Common.{◌≡◌, ◌∙◌, ℕ, ◌<◌, Bool, false, List, [], ◌∷◌, length, get_or, set, map, suc, zero, refl, sym, ap, arith, ◌||◌, nat_le, nat_lt, slice_index, ◌^◌, eqb}
-use Rattle.std.specs.List.{list_any, All}
+use Rattle.std.proofs.Common.{◌≡◌, ◌∙◌, ℕ, ◌<◌, Bool, false, List, [], ◌∷◌, length, get_or, set, map, suc, zero, refl, sym, ap, arith, ◌||◌, nat_le, nat_lt, slice_index, ◌^◌, eqb, cond, ◌+◌, ◌≤◌, true, zero-add}
+use Rattle.std.specs.List.{list_any, All, count_by}
 use Rattle.std.proofs.lemmas.Bool.{or_from}
 use Rattle.std.proofs.lemmas.Bool.Decides.{nat_tests}
 use Rattle.std.proofs.lemmas.List.{length-map}
 use Rattle.std.proofs.lemmas.List.Folds.{list_any_none}
+use Rattle.std.proofs.lemmas.List.Sums.{sum_by-cons, sum_by-set}
 use Rattle.plan_terms.specs.Faults.{case_fault, broken_limit, broker_repeat, part_repeat, topics, is_heavy, is_large, has_bad_chunks, first_repeat, same_id, same_part, distinct_from}
 use Rattle.plan_terms.proofs.FaultLemmas.{WithinLimits-faultless}
+use Rattle.plan_terms.specs.States.{is_new}
 use Rattle.plan_terms.specs.declared.cluster.Broker.{Broker}
 use Rattle.plan_terms.specs.declared.cluster.BrokerState.{BrokerState}
+use Rattle.plan_terms.specs.declared.cluster.BrokerState.TheVariants.{Alive}
 use Rattle.plan_terms.specs.declared.cluster.Loads.{Loads}
 use Rattle.plan_terms.specs.declared.cluster.Options.{Options}
 use Rattle.plan_terms.specs.declared.cluster.Part.{Part}
@@ -106,24 +109,32 @@ places-same ps qs places n e h =
       each = λ p l. rw (names, e) (h.each p (rw long at l));
     }
 
-IsIndexed-parts : (bs : List Broker) (ps qs : List Part) (o : Options) (ids places : List ℕ) (n : ℕ) → SameParts ps qs → All (λ p. slice_index p.loads.follow 2 ≡ 0) ps
-    → IsIndexed (record { brokers = bs; parts = qs; options = o }) ids places n → IsIndexed (record { brokers = bs; parts = ps; options = o }) ids places n
-IsIndexed-parts bs ps qs o ids places n same silent h = record {
+IsIndexed-parts : (bs : List Broker) (ps qs : List Part) (o : Options) (ids places : List ℕ) (n added : ℕ) → SameParts ps qs → All (λ p. slice_index p.loads.follow 2 ≡ 0) ps
+    → IsIndexed (record { brokers = bs; parts = qs; options = o }) ids places n added → IsIndexed (record { brokers = bs; parts = ps; options = o }) ids places n added
+IsIndexed-parts bs ps qs o ids places n added same silent h = record {
   case_is = record { faultless = fault-parts bs ps qs same ∙ h.case_is.faultless; topics_once = h.case_is.topics_once; followers = silent };
   ids_are = h.ids_are;
   places_are = places-same ps qs places n same.topics_same h.places_are;
+  added_are = h.added_are;
 }
 
-pub IsIndexed-with_state : (bs : List Broker) (ps : List Part) (o : Options) (ids places : List ℕ) (n : ℕ) (i : ℕ) (b : Broker) (s : BrokerState) → i < length bs → b ≡ get_or bs i b
-    → IsIndexed (record { brokers = bs; parts = ps; options = o }) ids places n
-    → IsIndexed (record { brokers = set bs i (record b { state = s }); parts = ps; options = o }) ids places n
-IsIndexed-with_state bs ps o ids places n i b s l is h =
+-- how many brokers are being added, with one state changed
+new-with_state : (bs : List Broker) (i : ℕ) (b : Broker) (s : BrokerState) → i < length bs → b ≡ get_or bs i b
+    → count_by (λ x. is_new x.state) (with_state bs i s) + cond (is_new b.state) 1 0 ≡ count_by (λ x. is_new x.state) bs + cond (is_new s) 1 0
+new-with_state bs i b s l is = rw (← is, set-with_state bs i b s l is) at (sum_by-set (λ (x : Broker). cond (is_new x.state) 1 0) bs i (record b { state = s }) b l)
+
+pub IsIndexed-with_state : (bs : List Broker) (ps : List Part) (o : Options) (ids places : List ℕ) (n added later : ℕ) (i : ℕ) (b x : Broker) (s : BrokerState) → i < length bs → b ≡ get_or bs i b
+    → x ≡ get_or bs i x → later + cond (is_new x.state) 1 0 ≡ added + cond (is_new s) 1 0
+    → IsIndexed (record { brokers = bs; parts = ps; options = o }) ids places n added
+    → IsIndexed (record { brokers = set bs i (record b { state = s }); parts = ps; options = o }) ids places n later
+IsIndexed-with_state bs ps o ids places n added later i b x s l is read counted h =
     let same_ids = map-with_state (λ (x : Broker). x.id) s (λ x. refl) bs i in
     let same_caps = map-with_state (λ (x : Broker). x.cap) s (λ x. refl) bs i in
     rw (set-with_state bs i b s l is) (record {
       case_is = record { faultless = fault-brokers (with_state bs i s) bs ps same_ids same_caps ∙ h.case_is.faultless; topics_once = h.case_is.topics_once; followers = h.case_is.followers };
       ids_are = h.ids_are ∙ sym same_ids;
       places_are = h.places_are;
+      added_are = omega (arith, new-with_state bs i x s l read, h.added_are, counted);
     })
 
 excluded-silent : (ps : List Part) (i : ℕ) (e : Bool) → All (λ p. slice_index p.loads.follow 2 ≡ 0) ps → All (λ p. slice_index p.loads.follow 2 ≡ 0) (with_excluded ps i e)
@@ -136,12 +147,12 @@ excluded-silent (p ∷ ps) (suc i) e h (suc k) d l = excluded-silent ps i e (λ 
 abbrev heavy_loads : Loads → Bool
 heavy_loads l = list_any (λ x. nat_le 4294967296 x) l.lead || list_any (λ x. nat_le 4294967296 x) l.follow
 
-pub IsIndexed-with_excluded : (bs : List Broker) (ps : List Part) (o : Options) (ids places : List ℕ) (n : ℕ) (i : ℕ) (p : Part) (e : Bool) → i < length ps → p ≡ get_or ps i p
-    → IsIndexed (record { brokers = bs; parts = ps; options = o }) ids places n
-    → IsIndexed (record { brokers = bs; parts = set ps i (record p { excluded = e }); options = o }) ids places n
-IsIndexed-with_excluded bs ps o ids places n i p e l is h =
+pub IsIndexed-with_excluded : (bs : List Broker) (ps : List Part) (o : Options) (ids places : List ℕ) (n added : ℕ) (i : ℕ) (p : Part) (e : Bool) → i < length ps → p ≡ get_or ps i p
+    → IsIndexed (record { brokers = bs; parts = ps; options = o }) ids places n added
+    → IsIndexed (record { brokers = bs; parts = set ps i (record p { excluded = e }); options = o }) ids places n added
+IsIndexed-with_excluded bs ps o ids places n added i p e l is h =
     let same_loads = map-with_excluded (λ (x : Part). x.loads) e (λ x. refl) ps i in
-    rw (set-with_excluded ps i p e l is) (IsIndexed-parts bs (with_excluded ps i e) ps o ids places n (record {
+    rw (set-with_excluded ps i p e l is) (IsIndexed-parts bs (with_excluded ps i e) ps o ids places n added (record {
       keys = map-with_excluded key e (λ x. refl) ps i;
       topics_same = map-with_excluded (λ (x : Part). x.topic) e (λ x. refl) ps i;
       chunks = map-with_excluded (λ (x : Part). x.chunks) e (λ x. refl) ps i;
@@ -165,15 +176,27 @@ loads-light [] i l z h = refl
 loads-light (p ∷ ps) zero l z h = or_from _ _ z (or_parts (is_heavy p) (list_any is_heavy ps) h).1
 loads-light (p ∷ ps) (suc i) l z h = let both = or_parts (is_heavy p) (list_any is_heavy ps) h in or_from _ _ both.0 (loads-light ps i l z both.1)
 
-pub IsIndexed-with_loads : (bs : List Broker) (ps : List Part) (o : Options) (ids places : List ℕ) (n : ℕ) (i : ℕ) (p : Part) (l : Loads) → i < length ps → p ≡ get_or ps i p
+pub IsIndexed-with_loads : (bs : List Broker) (ps : List Part) (o : Options) (ids places : List ℕ) (n added : ℕ) (i : ℕ) (p : Part) (l : Loads) → i < length ps → p ≡ get_or ps i p
     → All (λ x. x < 2 ^ 32) l.lead → All (λ x. x < 2 ^ 32) l.follow → slice_index l.follow 2 ≡ 0
-    → IsIndexed (record { brokers = bs; parts = ps; options = o }) ids places n
-    → IsIndexed (record { brokers = bs; parts = set ps i (record p { loads = l }); options = o }) ids places n
-IsIndexed-with_loads bs ps o ids places n i p l within is lead follow silent h =
+    → IsIndexed (record { brokers = bs; parts = ps; options = o }) ids places n added
+    → IsIndexed (record { brokers = bs; parts = set ps i (record p { loads = l }); options = o }) ids places n added
+IsIndexed-with_loads bs ps o ids places n added i p l within is lead follow silent h =
     let light = (WithinLimits-faultless bs ps h.case_is.faultless).light in
-    rw (set-with_loads ps i p l within is) (IsIndexed-parts bs (with_loads ps i l) ps o ids places n (record {
+    rw (set-with_loads ps i p l within is) (IsIndexed-parts bs (with_loads ps i l) ps o ids places n added (record {
       keys = map-with_loads key l (λ x. refl) ps i;
       topics_same = map-with_loads (λ (x : Part). x.topic) l (λ x. refl) ps i;
       chunks = map-with_loads (λ (x : Part). x.chunks) l (λ x. refl) ps i;
       heavy = loads-light ps i l (or_from _ _ (all-light l.lead lead) (all-light l.follow follow)) light ∙ sym light;
     }) (loads-silent ps i l silent h.case_is.followers) h)
+
+-- a broker that is being added is counted
+pub new-counted : (bs : List Broker) (i : ℕ) (b : Broker) → i < length bs → b ≡ get_or bs i b → cond (is_new b.state) 1 0 ≤ count_by (λ x. is_new x.state) bs
+new-counted bs i b l is = omega (arith, new-with_state bs i b Alive l is)
+
+-- some broker is being added exactly where their number isn't 0
+pub any-counted : {X : Type 0} (p : X → Bool) (xs : List X) → list_any p xs ≡ nat_lt 0 (count_by p xs)
+any-counted p [] = refl
+any-counted p (x ∷ xs) = elim (p x) as (λ b. p x ≡ b → (b || list_any p xs) ≡ nat_lt 0 (count_by p (x ∷ xs))) [
+  | true ↦ λ e. rw (sum_by-cons (λ y. cond (p y) 1 0) x xs, e) (grind (arith, nat_tests))
+  | false ↦ λ e. rw (sum_by-cons (λ y. cond (p y) 1 0) x xs, e, zero-add) (any-counted p xs)
+] refl

@@ -8,3 +8,4 @@ pub mod Repetition
 pub mod Sums
 pub mod Tabled
 pub mod Texts
+pub mod Together

@@ -179,7 +179,7 @@ follow-one LeaderIn parts p h = absurd (false≢true h)
 follow-one (OfTopic t) parts p h = one_weight (bytes_eq p.topic (topic_at parts t))
 follow-one (LedInTopic t) parts p h = omega arith
 
-pub amount-few : (kind : Amount) (c : Cluster) (b : ℕ) (lists : Lists) → IsCase c → IsAssignment lists → counts_places kind ≡ true → amount kind c.parts b lists ≤ 80000
+pub amount-few : (kind : Amount) (c : Cluster) (b : ℕ) (lists : Lists) → IsCase c → Short lists → counts_places kind ≡ true → amount kind c.parts b lists ≤ 80000
 unfolding amount
 amount-few kind c b lists h k one =
     let limits = WithinLimits-faultless c.brokers c.parts h.faultless in
@@ -189,7 +189,7 @@ amount-few kind c b lists h k one =
       arith,
       limits.few_parts,
       sum_parts-le (lead_of kind c.parts) (follow_of kind c.parts) b 8 c.parts lists
-          (λ i l. list_load-le (lead_at kind c.parts i) (follow_at kind c.parts i) b 1 (list_of lists i) (lead i) (follow i) (short-at lists i k)),
+          (λ i l. list_load-le (lead_at kind c.parts i) (follow_at kind c.parts i) b 1 (list_of lists i) (lead i) (follow i) (k.each i)),
     )
 
 -- a broker of short lists carries less than 2^49

@@ -1,5 +1,5 @@
 -- The table of a book: a row for each broker, with a number for each kind of amount.
-use Rattle.std.specs.Prelude.{◌≡◌, ◌+◌, ◌*◌, ◌<◌, ◌==◌, ℕ, Bool, List, [], length, get_or, nat_lt, if◌then◌else◌}
+use Rattle.std.specs.Prelude.{◌≡◌, ◌+◌, ◌*◌, ◌<◌, ◌==◌, ℕ, Bool, List, [], length, map, get_or, nat_lt, if◌then◌else◌}
 use Rattle.plan_terms.specs.Cluster.{Cluster, Lists}
 use Rattle.plan_terms.specs.Faults.{topics}
 use Rattle.plan_terms.specs.declared.cluster.Part.{Part}
@@ -57,7 +57,16 @@ AreLong c rows = (k : ℕ) → k < length c.brokers → length (get_or rows k []
 abbrev pub AreBelow : ℕ → Cluster → List (List ℕ) → Type 0
 AreBelow top c rows = (k : ℕ) → k < length c.brokers → (kind : Amount) → InRange kind c.parts → get_or (get_or rows k []) (column kind) 0 < top
 
--- what a book keeps: one list for each partition, and the table of what they put on brokers
-pub record IsKept (c : Cluster) (lists : Lists) (rows : List (List ℕ)) : Type 0 where
+-- the lists with one broker at every place
+abbrev pub all_at : ℕ → Lists → Lists
+all_at b lists = map (map (λ _. b)) lists
+
+-- the row has what all brokers carry together: as much as one would that had every place
+abbrev pub AreTotals : List Part → Lists → List ℕ → Type 0
+AreTotals parts lists row = IsRow parts 0 (all_at 0 lists) row
+
+-- what a book keeps: one list for each partition, the table of what they put on brokers, and the totals of that
+pub record IsKept (c : Cluster) (lists : Lists) (rows : List (List ℕ)) (totals : List ℕ) : Type 0 where
   pub one_each : length lists ≡ length c.parts
   pub table_is : IsTable c lists rows
+  pub totals_are : AreTotals c.parts lists totals

@@ -1,15 +1,16 @@
 // The lists of a plan in the making, with what they put on brokers.
-ghost use Rattle.std.specs.Prelude.{◌≡◌, ◌<◌, ◌≤◌, ◌^◌, IfOk, IsTrue, length, slice_set, true, false};
+ghost use Rattle.std.specs.Prelude.{◌≡◌, ◌<◌, ◌≤◌, ◌^◌, IfOk, IsTrue, bytes_eq, length, slice_index, slice_set, true, false, if◌then◌else◌};
 ghost use Rattle.plan_terms.specs.Belongs.{Belongs, IsAssignment};
 ghost use Rattle.plan_terms.specs.Cluster.{list_of, has, is_known};
 ghost use Rattle.plan_terms.specs.Effect.{exchange_at};
 ghost use Rattle.plan_terms.specs.Faults.{IsCase, topics};
 ghost use Rattle.plan_terms.specs.Load.{count, leaders, load, leader_in, potential_out, topic_count, topic_leaders};
-ghost use Rattle.load_model.specs.Amounts.{InRange, amount, counts_places};
+ghost use Rattle.load_model.specs.Amounts.{InRange, amount, counts_places, follow_of, lead_of};
 ghost use Rattle.load_model.specs.Places.{id_at, topic_at};
+ghost use Rattle.load_model.specs.Totals.{whole};
 
 use crate::amounts::Amount;
-use crate::table::Table;
+use crate::table::{Row, Table};
 use crate::{Assign, Case};
 use plan_terms::Memory;
 use std::alloc::Global;
@@ -17,13 +18,14 @@ use std::marker::Model;
 
 /// The lists of a plan in the making, which actions change, with the cluster whose loads they put on brokers.
 ///
-/// Brokers, partitions and topics go by their places in the case that the book was made for, which it keeps a copy of.
-/// What brokers carry stands in a table that each change keeps, so no reader looks at the lists.
+/// Brokers, partitions and topics go by their places in the case that the book was made for, which it keeps.
+/// What brokers carry, and what all carry together, stands in a table that each change keeps, so no reader looks at the lists.
 #[derive(Drop)]
 pub struct LoadBook {
     case: Case,
     lists: Assign,
     table: Table,
+    totals: Row,
 }
 
 impl Model for LoadBook {
@@ -34,19 +36,30 @@ impl Model for LoadBook {
 
     ghost view = { λ b. record { cluster = b.case; lists = b.lists } };
 
-    ghost invariant = { λ b. IsKept b.case b.lists b.table };
+    ghost invariant = { λ b. IsKept b.case b.lists b.table b.totals };
 }
 
 impl LoadBook {
-    /// The book of these lists.
+    /// The book of these lists, with copies of the case and the lists.
     pub fn new(alloc: Global, case: &Case, lists: &Assign) -> Result<LoadBook, Memory>
         requires { Belongs case.now lists.now }
         ensures { IfOk result (λ b. b ≡ record { cluster = case.now; lists = lists.now }) }
     {
+        LoadBook::of(alloc, case.copy(alloc)?, lists.copy(alloc)?)
+    }
+
+    /// The book of this case and these lists themselves.
+    pub fn of(alloc: Global, case: Case, lists: Assign) -> Result<LoadBook, Memory>
+        requires { Belongs case lists }
+        ensures { IfOk result (λ b. b ≡ record { cluster = case; lists = lists }) }
+    {
+        let table = Table::new(alloc, &case, &lists)?;
+        let totals = Row::totals(alloc, &case, &lists)?;
         Ok(LoadBook {
-            case: case.copy(alloc)?,
-            lists: lists.copy(alloc)?,
-            table: Table::new(alloc, case, lists)?,
+            case,
+            lists,
+            table,
+            totals,
         })
     }
 
@@ -54,7 +67,9 @@ impl LoadBook {
     pub fn resum(&mut self, alloc: Global) -> Result<(), Memory>
         ensures { self.new ≡ self.old }
     {
+        let totals = Row::totals(alloc, &self.case, &self.lists)?;
         self.table = Table::new(alloc, &self.case, &self.lists)?;
+        self.totals = totals;
         Ok(())
     }
 
@@ -82,6 +97,14 @@ impl LoadBook {
         ensures { result ≡ self.lists }
     {
         self.lists
+    }
+
+    /// The case that the book was made for and the lists as they stand, without a copy.
+    pub fn into_parts(self) -> (Case, Assign)
+        ensures case { result.0 ≡ self.cluster }
+        ensures lists { result.1 ≡ self.lists }
+    {
+        (self.case, self.lists)
     }
 
     /// The list of a partition.
@@ -173,6 +196,78 @@ impl LoadBook {
         ensures few { result ≤ 80000 }
     {
         self.amount(Amount::LedInTopic(topic), broker)
+    }
+
+    // What all brokers carry together.
+    fn total(&self, kind: Amount) -> u64
+        requires { InRange kind self.now.cluster.parts }
+        ensures value { result ≡ whole (lead_of kind self.now.cluster.parts) (follow_of kind self.now.cluster.parts) self.now.cluster.parts self.now.lists }
+        ensures small { result < 2 ^ 49 }
+        ensures few { counts_places kind ≡ true → result ≤ 80000 }
+    {
+        let _parts = self.case.parts();
+        let _assignment = self.lists.lists();
+        self.totals.total(&self.case, kind)
+    }
+
+    /// The load of a resource on all brokers together. The lists alone tell it, and no change of the book changes it. Below
+    /// 2^49.
+    pub fn total_load(&self, res: usize) -> u128
+        requires { res < 4 }
+        ensures value { result ≡ whole (λ p. slice_index p.loads.lead res) (λ p. slice_index p.loads.follow res) self.now.cluster.parts self.now.lists }
+        ensures small { result < 2 ^ 49 }
+    {
+        u128::from(self.total(Amount::Load(res)))
+    }
+
+    /// The number of all replicas, at most 80,000.
+    pub fn total_count(&self) -> u64
+        ensures value { result ≡ whole (λ _. 1) (λ _. 1) self.now.cluster.parts self.now.lists }
+        ensures few { result ≤ 80000 }
+    {
+        self.total(Amount::Replicas)
+    }
+
+    /// The number of all leaders, at most 80,000.
+    pub fn total_leaders(&self) -> u64
+        ensures value { result ≡ whole (λ _. 1) (λ _. 0) self.now.cluster.parts self.now.lists }
+        ensures few { result ≤ 80000 }
+    {
+        self.total(Amount::Leaders)
+    }
+
+    /// What all brokers would send to clients together, if each led all partitions of which it is a member. Below 2^49.
+    pub fn total_potential_out(&self) -> u128
+        ensures value { result ≡ whole (λ p. slice_index p.loads.lead 2) (λ p. slice_index p.loads.lead 2) self.now.cluster.parts self.now.lists }
+        ensures small { result < 2 ^ 49 }
+    {
+        u128::from(self.total(Amount::PotentialOut))
+    }
+
+    /// The leaders' NW_IN over all partitions. Below 2^49.
+    pub fn total_leader_in(&self) -> u128
+        ensures value { result ≡ whole (λ p. slice_index p.loads.lead 1) (λ _. 0) self.now.cluster.parts self.now.lists }
+        ensures small { result < 2 ^ 49 }
+    {
+        u128::from(self.total(Amount::LeaderIn))
+    }
+
+    /// The number of a topic's replicas, by the topic's place among the topics. At most 80,000.
+    pub fn total_topic_count(&self, topic: usize) -> u64
+        requires { topic < length (topics self.now.cluster.parts) }
+        ensures value { result ≡ whole (λ p. if bytes_eq p.topic (topic_at self.now.cluster.parts topic) then 1 else 0) (λ p. if bytes_eq p.topic (topic_at self.now.cluster.parts topic) then 1 else 0) self.now.cluster.parts self.now.lists }
+        ensures few { result ≤ 80000 }
+    {
+        self.total(Amount::OfTopic(topic))
+    }
+
+    /// The number of a topic's leaders, by the topic's place among the topics. At most 80,000.
+    pub fn total_topic_leaders(&self, topic: usize) -> u64
+        requires { topic < length (topics self.now.cluster.parts) }
+        ensures value { result ≡ whole (λ p. if bytes_eq p.topic (topic_at self.now.cluster.parts topic) then 1 else 0) (λ _. 0) self.now.cluster.parts self.now.lists }
+        ensures few { result ≤ 80000 }
+    {
+        self.total(Amount::LedInTopic(topic))
     }
 
     /// Puts a broker of the case that is no member at one place of one list.

@@ -1,8 +1,10 @@
 // Brokers and partitions of a cluster, as one request sees them.
-ghost use Rattle.std.specs.Prelude.{◌≡◌, ◌≤◌, ◌<◌, ◌^◌, ◌≢◌, ℕ, None, Some, IfOk, IfErr, OnOk, length, map, option_map, position, slice_index, ◌==◌};
-ghost use Rattle.std.specs.List.{All};
+ghost use Rattle.std.specs.Prelude.{◌≡◌, ◌≤◌, ◌<◌, ◌^◌, ◌≢◌, ℕ, None, Some, IfOk, IfErr, OnOk, length, map, option_map, position, slice_index, ◌==◌, ◌+◌, if◌then◌else◌};
+ghost use Rattle.std.specs.List.{All, count_by};
 ghost use Rattle.plan_terms.specs.Cluster.{broker_of};
 ghost use Rattle.plan_terms.specs.Faults.{IsCase, case_fault, cluster_fault, leaders_repeat, topics};
+ghost use Rattle.plan_terms.specs.Legal.{any_new};
+ghost use Rattle.plan_terms.specs.States.{is_new};
 ghost use Rattle.load_model.specs.Changed.{with_state, with_loads, with_excluded};
 ghost use Rattle.load_model.specs.Places.{AreTopicPlaces, id_at, topic_at, topic_of};
 
@@ -25,6 +27,8 @@ pub struct Case {
     options: Options,
     ids: IndexSet<u32>,
     topics: TopicPlaces,
+    // How many brokers are being added.
+    being_added: usize,
 }
 
 impl Model for Case {
@@ -35,7 +39,7 @@ impl Model for Case {
 
     ghost view = { λ c. record { brokers = c.brokers.items; parts = c.parts.items; options = c.options } };
 
-    ghost invariant = { λ c. IsIndexed (record { brokers = c.brokers.items; parts = c.parts.items; options = c.options }) c.ids.keys c.topics.places.items c.topics.count };
+    ghost invariant = { λ c. IsIndexed (record { brokers = c.brokers.items; parts = c.parts.items; options = c.options }) c.ids.keys c.topics.places.items c.topics.count c.being_added };
 }
 
 // What a case keeps beside its brokers and partitions, or their first fault.
@@ -59,6 +63,21 @@ fn index_of(
         return Err(fault);
     }
     Ok((ids, topics))
+}
+
+fn count_new(brokers: &[Broker]) -> usize
+    ensures { result ≡ count_by (λ b. is_new b.state) brokers.now }
+{
+    brokers.iter().filter(|b| b.state.is_new()).count()
+}
+
+// The number of brokers that are being added, after one whose state was new or not has another one.
+fn recounted(being_added: usize, was_new: bool, is_new: bool) -> usize
+    requires counted { (if was_new then 1 else 0) ≤ being_added }
+    requires few { being_added ≤ 200 }
+    ensures { result + (if was_new then 1 else 0) ≡ being_added + (if is_new then 1 else 0) }
+{
+    being_added - usize::from(was_new) + usize::from(is_new)
 }
 
 fn copy_brokers(alloc: Global, brokers: &[Broker]) -> Result<Vec<Broker>, Memory>
@@ -101,12 +120,14 @@ impl Case {
         if let Some(fault) = leaders_repeat(alloc, options.min_leaders.as_slice())? {
             return Err(fault);
         }
+        let being_added = count_new(&brokers);
         Ok(Case {
             brokers,
             parts,
             options,
             ids,
             topics,
+            being_added,
         })
     }
 
@@ -155,6 +176,13 @@ impl Case {
         }
     }
 
+    /// Whether some broker is being added.
+    pub fn any_new(&self) -> bool
+        ensures { result ≡ any_new self.now }
+    {
+        self.being_added > 0
+    }
+
     /// The number of topics, at most 1,000.
     pub fn topics(&self) -> usize
         ensures value { result ≡ length (topics self.now.parts) }
@@ -178,7 +206,9 @@ impl Case {
         requires { broker < length self.old.brokers }
         ensures { self.new ≡ record self.old { brokers = with_state self.old.brokers broker state } }
     {
+        let was_new = self.brokers[broker].state.is_new();
         self.brokers[broker].state = state;
+        self.being_added = recounted(self.being_added, was_new, state.is_new());
     }
 
     /// Gives the partition at a place other loads, each below 2^32 and with no NW_OUT of followers.
@@ -217,6 +247,7 @@ impl Case {
             options: self.options.copy(alloc)?,
             ids: self.ids.clone()?,
             topics: self.topics.copy(alloc)?,
+            being_added: self.being_added,
         })
     }
 }

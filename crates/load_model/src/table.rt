@@ -1,11 +1,11 @@
 // The table of what brokers carry.
-ghost use Rattle.std.specs.Prelude.{◌≡◌, ◌+◌, ◌<◌, ◌≤◌, ◌^◌, ℕ, IfOk, false, [], length, slice_set, slice_index, get_or, if◌then◌else◌};
+ghost use Rattle.std.specs.Prelude.{◌≡◌, ◌+◌, ◌<◌, ◌≤◌, ◌^◌, ℕ, IfOk, false, [], length, map, slice_set, slice_index, get_or, if◌then◌else◌};
 ghost use Rattle.plan_terms.specs.Faults.{topics};
 ghost use Rattle.plan_terms.specs.Load.{list_load};
 ghost use Rattle.load_model.specs.declared.amounts.Amount.{Amount};
 ghost use Rattle.load_model.specs.Amounts.{InRange, lead_at, follow_at};
 ghost use Rattle.load_model.specs.Places.{id_at};
-ghost use Rattle.load_model.specs.Tables.{AreBelow, AreLong, IsChanged, IsTable, column, columns, kind_at, put_on, weight_at};
+ghost use Rattle.load_model.specs.Tables.{AreBelow, AreLong, AreTotals, IsChanged, IsTable, column, columns, kind_at, put_on, weight_at};
 
 use crate::amounts::{Amount, weights_at};
 use crate::{Assign, Case};
@@ -159,6 +159,44 @@ impl Row {
         }
         self.change_kind(case, Amount::OfTopic(topic), part, first, gains);
         self.change_kind(case, Amount::LedInTopic(topic), part, first, gains);
+    }
+
+    // Takes all places of a partition's list on.
+    fn add_places(&mut self, case: &Case, part: usize, list: &[u32])
+        requires part { part < length case.now.parts }
+        requires short { length list.now ≤ 8 }
+        requires long { length self.old ≡ columns case.now.parts }
+        requires fits { (kind : Amount) → InRange kind case.now.parts → slice_index self.old (column kind) < 2 ^ 49 }
+        ensures { IsChanged case.now.parts (λ kind. 0)
+            (λ kind. list_load (lead_at kind case.now.parts part) (follow_at kind case.now.parts part) 0 (map (λ _. 0) list.now)) self.old self.new }
+    {
+        let _parts = case.parts();
+        for place in 0..list.len() {
+            self.change(case, part, place == 0, true);
+        }
+    }
+
+    /// What all brokers carry together.
+    pub fn totals(alloc: Global, case: &Case, lists: &Assign) -> Result<Row, Memory>
+        requires { length lists.now ≡ length case.now.parts }
+        ensures { IfOk result (AreTotals case.now.parts lists.now) }
+    {
+        let _assignment = lists.lists();
+        let _parts = case.parts();
+        let mut row = Row::empty(alloc, 2 * case.topics() + 8)?;
+        for part in 0..lists.len() {
+            row.add_places(case, part, lists.list(part));
+        }
+        Ok(row)
+    }
+
+    /// What all brokers carry together of one kind, where this row has the totals.
+    pub fn total(&self, case: &Case, kind: Amount) -> u64
+        requires range { InRange kind case.now.parts }
+        requires long { length self.now ≡ columns case.now.parts }
+        ensures { result ≡ slice_index self.now (column kind) }
+    {
+        self.amount(column(case, kind))
     }
 }
 

@@ -1,15 +1,15 @@
 // What a goal says of the lists and of an action.
-ghost use Rattle.goal_terms.specs.Pairs.{ColdPairs, IdleTrades};
+ghost use Rattle.goal_terms.specs.Pairs.{ColdPairs, IdleTrades, giver, taker};
 ghost use Rattle.goal_terms.specs.PerBroker.{id_at};
-ghost use Rattle.goal_terms.specs.Limits.{SmallLoads, SmallWeights};
 ghost use Rattle.goal_terms.specs.Quantity.{Weights, part_weight, total};
 ghost use Rattle.goal_terms.specs.Rooms.{RoomsDecide};
 ghost use Rattle.goal_terms.specs.declared.room.Room.{Room};
-ghost use Rattle.plan_terms.specs.declared.cluster.Part.{Part};
+ghost use Rattle.plan_terms.specs.declared.actions.Action.{Action};
 ghost use Rattle.goal_terms.specs.declared.heat.Heat.{Heat};
 ghost use Rattle.std.specs.Prelude.{◌≡◌, ◌<◌, ◌≤◌, ◌^◌, ◌↔◌, ℕ, IsTrue, IfSome, Option, option_map, length};
 ghost use Rattle.plan_terms.specs.Belongs.{Belongs, IsBookOf};
 ghost use Rattle.plan_terms.specs.Cluster.{Cluster, Lists};
+ghost use Rattle.plan_terms.specs.Effect.{after};
 ghost use Rattle.plan_terms.specs.Faults.{IsCase};
 ghost use Rattle.plan_terms.specs.Fits.{fits, targets_known};
 ghost use Rattle.plan_terms.specs.Goal.{Meaning, Accepts, Lessens, measure};
@@ -110,8 +110,9 @@ pub trait Goal {
     /// It accepts an action exactly where the trade stays in the rooms of its two brokers.
     ghost rooms_decide: { (g : Self) (c : Cluster) (lists : Lists) → made_for g c → IsCase c → Belongs c lists → IfSome (weighs g) (RoomsDecide (meaning g c) (room_at g c lists) c.parts lists) };
 
-    /// No place of a list adds more to a quantity than a load value may be.
-    ghost small_weights: { (g : Self) (p : Part) → SmallLoads p → IfSome (weighs g) (λ w. SmallWeights w p) };
+    /// An action leaves the room of every broker but its giver and its taker as it was.
+    ghost rooms_stay: { (g : Self) (c : Cluster) (lists : Lists) → made_for g c → Belongs c lists → (a : Action) → IsTrue (fits lists a)
+        → (k : ℕ) → (k ≡ giver lists a → ⊥) → (k ≡ taker a → ⊥) → room_at g c (after a lists) k ≡ room_at g c lists k };
 }
 
 /// The sum of a goal's excesses, below 2^120. The goal is met where it is 0.

@@ -2,7 +2,7 @@
 ghost use Rattle.std.specs.Prelude.{◌≡◌, ◌||◌};
 ghost use Rattle.plan_terms.specs.States.{is_dead, is_new, is_demoted};
 ghost use Rattle.plan_terms.specs.Cluster.{list_of, has, leads, some_broker};
-ghost use Rattle.plan_terms.specs.Legal.{is_live, is_lost, any_new, is_open, leader_fails, may_gain, is_legal};
+ghost use Rattle.plan_terms.specs.Legal.{is_live, is_lost, is_open, leader_fails, may_gain, is_legal};
 
 use load_model::{Assign, Case, LoadBook, Replicas};
 use plan_terms::Action;
@@ -46,12 +46,6 @@ pub fn is_lost(case: &Case, broker: u32) -> bool
     }
 }
 
-fn any_new(case: &Case) -> bool
-    ensures { result ≡ any_new case.now }
-{
-    case.brokers().iter().any(|x| x.state.is_new())
-}
-
 fn is_new(case: &Case, broker: u32) -> bool
     ensures { result ≡ some_broker (λ x. is_new x.state) case.now broker }
 {
@@ -64,7 +58,7 @@ fn is_new(case: &Case, broker: u32) -> bool
 fn may_gain(case: &Case, broker: u32) -> bool
     ensures { result ≡ may_gain case.now broker }
 {
-    is_new(case, broker) || !any_new(case)
+    is_new(case, broker) || !case.any_new()
 }
 
 fn is_open(case: &Case, part: u32) -> bool
@@ -141,7 +135,7 @@ pub fn is_legal_on(case: &Case, lists: &[Replicas], action: Action) -> bool
                 && is_open(case, part)
                 && is_open(case, other)
                 && !case.options().leads_only
-                && !any_new(case)
+                && !case.any_new()
         }
     }
 }

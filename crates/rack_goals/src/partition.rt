@@ -224,5 +224,5 @@ impl<R: ListRule> Goal for PartitionGoal<R> {
 
     ghost rooms_decide = { λ _ _ _ _ _ _. tt };
 
-    ghost small_weights = { λ _ _ _. tt };
+    ghost rooms_stay = { λ _ _ _ _ _ _ _ _ _ _ _. free };
 }

@@ -1,7 +1,7 @@
 use Rattle.std.proofs.Common.{drop, arith}
 use Rattle.plan_terms.specs.Load.{sum_parts}
 use Rattle.load_model.specs.Amounts.{amount, share, lead_of, follow_of}
-use Rattle.load_model.proofs.Sums.{amount-few, amount-small, sum_parts-next, sum_parts-end}
+use Rattle.load_model.proofs.Sums.{Short-assignment, amount-few, amount-small, sum_parts-next, sum_parts-end}
 use Rattle.load_model.proofs.amounts.amount_of.Goals as goal
 
 pub loop-part-preserved : goal.loop-part-preserved
@@ -28,5 +28,5 @@ returns c =
     record {
       value = omega (arith, none, c.loop-part.invariant);
       small = omega (arith, none, c.loop-part.invariant, small);
-      few = λ one. omega (arith, none, c.loop-part.invariant, amount-few c.args.kind c.args.case.now c.args.broker c.args.lists.now c.parts-parts.ensures.case c.lists-assignment.ensures.assignment one);
+      few = λ one. omega (arith, none, c.loop-part.invariant, amount-few c.args.kind c.args.case.now c.args.broker c.args.lists.now c.parts-parts.ensures.case (Short-assignment c.args.lists.now c.lists-assignment.ensures.assignment) one);
     }

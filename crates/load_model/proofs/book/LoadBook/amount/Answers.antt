@@ -21,5 +21,6 @@ returns-clause-few c = λ one.
       arith,
       c.amount.ensures,
       row.each c.args.kind (rw (← c.self.view_is) at c.requires.range),
-      amount-few c.args.kind c.self.inside.case (id_at c.self.inside.case.brokers c.args.broker) c.self.inside.lists c.parts-parts.ensures.case c.lists-assignment.ensures.assignment one,
+      amount-few c.args.kind c.self.inside.case (id_at c.self.inside.case.brokers c.args.broker) c.self.inside.lists c.parts-parts.ensures.case
+          (Short-assignment c.self.inside.lists c.lists-assignment.ensures.assignment) one,
     )

@@ -1,9 +1,10 @@
-use Rattle.std.proofs.Common.{◌≤◌, ◌^◌, arith, length, get_or}
+use Rattle.std.proofs.Common.{◌≤◌, ◌^◌, ◌∙◌, arith, length, get_or}
 use Rattle.std.proofs.lemmas.List.{length-set}
 use Rattle.plan_terms.specs.Cluster.{list_of}
 use Rattle.load_model.specs.Tables.{IsTable}
 use Rattle.load_model.proofs.Sums.{Short-assignment}
 use Rattle.load_model.proofs.Tabled.{AreBelow-more, AreBelow-table, IsTable-exchange, IsTable-shift, Short-half, exchange-enough, half, shift-enough}
+use Rattle.load_model.proofs.Together.{AreTotals-set}
 use Rattle.load_model.proofs.book.LoadBook.exchange.Goals as goal
 
 pub shift-requires-clause-fits : goal.shift-requires-clause-fits
@@ -52,4 +53,6 @@ invariant_of-self c =
       table_is =
           IsTable-exchange c.self.inside.case c.self.inside.lists c.args.part c.args.place inside few place c.shift.new.self middle c.shift-2.new.self c.shift-2.ensures.one_each
           (rw (c.list.ensures, c.list-2.ensures) at c.shift-2.ensures.each);
+      totals_are =
+          AreTotals-set c.self.inside.case.parts c.self.inside.lists c.args.part _ c.self.inside.totals (length-set _ _ _ ∙ length-set _ _ _) c.self.invariant.totals_are;
     })

@@ -5,7 +5,7 @@ use Rattle.load_model.proofs.Changes.{IsIndexed-with_excluded, set-with_excluded
 use Rattle.load_model.proofs.case.Case.set_excluded.Goals as goal
 
 pub invariant_of-self : goal.invariant_of-self
-invariant_of-self c = IsIndexed-with_excluded _ _ _ _ _ _ c.args.part c.index_mut.result.now c.args.excluded (rw (← c.self.view_is) at c.requires) c.index_mut.ensures.value c.self.invariant
+invariant_of-self c = IsIndexed-with_excluded _ _ _ _ _ _ _ c.args.part c.index_mut.result.now c.args.excluded (rw (← c.self.view_is) at c.requires) c.index_mut.ensures.value c.self.invariant
 
 pub returns : goal.returns
 returns c =

@@ -5,7 +5,7 @@ use Rattle.load_model.proofs.Changes.{IsIndexed-with_loads, set-with_loads}
 use Rattle.load_model.proofs.case.Case.set_loads.Goals as goal
 
 pub invariant_of-self : goal.invariant_of-self
-invariant_of-self c = IsIndexed-with_loads _ _ _ _ _ _ c.args.part c.index_mut.result.now c.args.loads (rw (← c.self.view_is) at c.requires.part) c.index_mut.ensures.value c.requires.lead c.requires.follow c.requires.silent c.self.invariant
+invariant_of-self c = IsIndexed-with_loads _ _ _ _ _ _ _ c.args.part c.index_mut.result.now c.args.loads (rw (← c.self.view_is) at c.requires.part) c.index_mut.ensures.value c.requires.lead c.requires.follow c.requires.silent c.self.invariant
 
 pub returns : goal.returns
 returns c =
