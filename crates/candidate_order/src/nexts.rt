@@ -14,7 +14,7 @@ use crate::leads::first_lead;
 use crate::order::Order;
 use crate::ranks::is_first;
 use crate::plain::Kind;
-use crate::rows::first_to;
+use crate::rows::first_anywhere;
 use crate::swaps::first_swap;
 use load_model::{Case, LoadBook};
 use move_actions::{Action, Goal};
@@ -43,7 +43,7 @@ fn first_move<G: Goal>(
     let first = is_first(book.list(part as usize), source.id);
     let own = goal.weight(case, part, first);
     let weights = column(case, earlier, scan.weights.as_slice(), part, first);
-    first_to(case, book, earlier, goal, scan, part, source, weights, own)
+    first_anywhere(case, book, earlier, goal, scan, part, source, weights, own)
 }
 
 // The first lead of one partition that serves, where the source is its first member.
