@@ -1,10 +1,10 @@
 -- What the weights and rooms of goals say of a move, goal by goal and of all together.
-use Rattle.std.specs.Prelude.{IfSome, IfNone, IsTrue, ◌↔◌, option_map, Option, Some, None, Bool}
-use Rattle.std.proofs.Common.{◌≡◌, ℕ, ◌<◌, ◌≤◌, List, [], ◌∷◌, length, map, get_or, arith, refl, ◌∙◌, sym, ap, false, true, inl, inr, zero, suc}
+use Rattle.std.specs.Prelude.{IfSome, IfNone, IsTrue, option_map, Option, Some, None, Bool}
+use Rattle.std.proofs.Common.{◌≡◌, ℕ, ◌<◌, ◌≤◌, List, [], ◌∷◌, length, map, get_or, arith, refl, ◌∙◌, sym, ap, false, true, inl, inr}
 use Rattle.std.specs.List.{All}
 use Rattle.std.proofs.lemmas.List.{get_or-map, length-map}
 use Rattle.std.proofs.lemmas.List.Elements.{All-map}
-use Rattle.plan_terms.specs.Cluster.{Cluster, Lists, list_of, leads}
+use Rattle.plan_terms.specs.Cluster.{Lists, list_of, leads}
 use Rattle.plan_terms.specs.Fits.{fits}
 use Rattle.plan_terms.specs.Goal.{Meaning, Accepts, Lessens}
 use Rattle.plan_terms.specs.Trace.{AllAccept}
@@ -12,7 +12,7 @@ use Rattle.plan_terms.specs.declared.actions.Action.{Action}
 use Rattle.plan_terms.specs.declared.actions.Action.TheVariants.{Move}
 use Rattle.plan_terms.specs.declared.cluster.Part.{Part}
 use Rattle.goal_terms.specs.Quantity.{Weights, part_weight, total}
-use Rattle.goal_terms.specs.Rooms.{RoomsDecide, free, StaysIn}
+use Rattle.goal_terms.specs.Rooms.{RoomsDecide, free}
 use Rattle.goal_terms.specs.declared.room.Room.{Room}
 use Rattle.std.proofs.lemmas.Bool.{cases_eq, ne_eqb, false≢true, and_parts, or_parts, not-false, not-true}
 use Rattle.goal_terms.specs.Pairs.{ColdPairs, IdleTrades, giver, taker}

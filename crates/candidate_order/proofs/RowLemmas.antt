@@ -1,15 +1,13 @@
 -- The moves of a replica, by the rows of the brokers.
-use Rattle.std.specs.Prelude.{List, Bool, nat_le, if◌then◌else◌, cond}
+use Rattle.std.specs.Prelude.{List, Bool, nat_le, if◌then◌else◌}
 use Rattle.std.proofs.Common.{◌≡◌, ℕ, ◌+◌, take, ◌<◌, ◌≤◌, ◌++◌, true, false, zero, suc, length, get_or, arith, inl, inr, [], ◌∷◌, map, refl, ap, ◌∙◌, sym}
 use Rattle.std.specs.List.{All, flat_map, filter}
 use Rattle.std.proofs.lemmas.Bool.{cases_Bool}
 use Rattle.goal_terms.specs.Pairs.{taker}
 use Rattle.std.proofs.lemmas.List.{get_or-map, length-map, take_more, append-nil}
 use Rattle.std.proofs.lemmas.List.Elements.{All-append, All-nil, All-filter, filter-append}
-use Rattle.plan_terms.specs.Legal.{each_below}
 use Rattle.plan_terms.specs.Cluster.{Cluster, Lists, has, list_of}
 use Rattle.plan_terms.specs.declared.cluster.Broker.{Broker}
-use Rattle.plan_terms.specs.declared.actions.Action.{Action}
 use Rattle.plan_terms.specs.declared.actions.Action.TheVariants.{Move}
 use Rattle.goal_terms.specs.PerBroker.{ids_of}
 use Rattle.candidate_order.specs.CandidateList.{moves_of_replica, replicas_of, by_falling, put_by, numbers}

@@ -12,8 +12,8 @@ ghost use Rattle.plan_terms.specs.Trace.{Step};
 use crate::kept::{Row, Scan, column};
 use crate::leads::first_lead;
 use crate::order::Order;
-use crate::ranks::is_first;
 use crate::plain::Kind;
+use crate::ranks::is_first;
 use crate::rows::first_anywhere;
 use crate::swaps::first_swap;
 use load_model::{Case, LoadBook};
@@ -157,7 +157,9 @@ pub fn next_in<G: Goal>(
     let rows = scan.rows.as_slice();
     for (k, source) in rows.iter().enumerate() {
         let replicas = order.row(k);
-        let found = first_of(kind, case, book, order, earlier, goal, scan, source, replicas);
+        let found = first_of(
+            kind, case, book, order, earlier, goal, scan, source, replicas,
+        );
         if let Some(action) = found {
             return Some(action);
         }

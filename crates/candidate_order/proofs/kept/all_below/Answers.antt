@@ -1,9 +1,9 @@
-use Rattle.std.proofs.Common.{◌≡◌, ◌<◌, ℕ, true, false, map, length, get_or, ◌∷◌, [], sym, ap, ◌∙◌, arith}
+use Rattle.std.proofs.Common.{◌≡◌, ◌<◌, ℕ, map, length, get_or, ◌∷◌, [], sym, ap, ◌∙◌, arith}
 use Rattle.std.specs.Prelude.{Bool}
-use Rattle.std.proofs.lemmas.List.{map-append, get_or-map, length-map, take_all}
+use Rattle.std.proofs.lemmas.List.{map-append, get_or-map, length-map}
 use Rattle.std.proofs.lemmas.List.Elements.{All-push}
 use Rattle.goal_terms.specs.PerBroker.{ids_of}
-use Rattle.candidate_order.specs.Looks.{is_below, look_room}
+use Rattle.candidate_order.specs.Looks.{is_below}
 use Rattle.candidate_order.specs.Scan.{IsRow}
 use Rattle.candidate_order.specs.declared.kept.Row.{Row}
 use Rattle.candidate_order.proofs.RowLemmas.{passed-more, passed-less}

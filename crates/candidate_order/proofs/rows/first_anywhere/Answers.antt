@@ -1,4 +1,4 @@
-use Rattle.std.proofs.Common.{◌≡◌, ℕ, false, map, get_or, sym, ◌∙◌}
+use Rattle.std.proofs.Common.{◌≡◌, false, map, get_or, sym}
 use Rattle.std.specs.Prelude.{Bool}
 use Rattle.std.specs.List.{filter}
 use Rattle.std.proofs.lemmas.List.Elements.{All-map}
