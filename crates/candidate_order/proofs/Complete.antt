@@ -1,14 +1,14 @@
 -- Every legal action is in the list of candidates.
-use Rattle.std.proofs.Common.{◌≡◌, ℕ, ◌<◌, Bool, true, false, List, [], ◌∷◌, ◌++◌, length, map, get_or, zero, suc, subst, refl, ap, ◌∙◌, sym, inl, inr, arith, eq-eqb}
-use Rattle.std.specs.Prelude.{cond, ◌==◌, ◌&&◌, nat_lt, is_some}
+use Rattle.std.proofs.Common.{◌≡◌, ℕ, Bool, true, false, List, [], ◌∷◌, ◌++◌, length, map, get_or, refl, ◌∙◌, inl, inr, arith, eq-eqb}
+use Rattle.std.specs.Prelude.{cond, ◌==◌, is_some}
 use Rattle.std.specs.List.{All, filter, flat_map}
 use Rattle.std.proofs.lemmas.Bool.{eqb-true, cases_eq, cases_Bool, false≢true, ne_eqb, lt-ltb}
 use Rattle.std.proofs.lemmas.List.Elements.{All-tail, filter_passes}
 use Rattle.plan_terms.specs.Belongs.{Belongs}
 use Rattle.plan_terms.specs.Cluster.{Cluster, Lists, list_of, has, leads, is_known, broker_of}
 use Rattle.plan_terms.specs.Legal.{is_legal, candidates, all_actions}
-use Rattle.plan_terms.specs.Goal.{Meaning, Lessens}
-use Rattle.plan_terms.specs.Trace.{AllAccept, NoneLeft, IsUnhelpful, Step}
+use Rattle.plan_terms.specs.Goal.{Meaning}
+use Rattle.plan_terms.specs.Trace.{NoneLeft, Step}
 use Rattle.plan_terms.proofs.EffectLemmas.{has-in_range, fits-legal, fits-Move, fits-Lead, fits-Swap, targets_known-legal}
 use Rattle.plan_terms.proofs.MemberLemmas.{list_all-member}
 use Rattle.plan_terms.specs.declared.cluster.Broker.{Broker}

@@ -1,5 +1,5 @@
 -- Leaving out what does not serve keeps the first that does.
-use Rattle.std.specs.Prelude.{cond}
+use Rattle.std.specs.Prelude.{Option, Some, None, MatchOption}
 use Rattle.std.proofs.Common.{◌≡◌, ℕ, ◌<◌, Bool, true, false, List, [], ◌∷◌, ◌++◌, length, get_or, map, take, zero, suc, refl, ap, ◌∙◌, sym, subst, arith, inl, inr, append_assoc}
 use Rattle.std.specs.List.{All, filter, flat_map}
 use Rattle.std.proofs.lemmas.Bool.{cases_Bool}
@@ -116,3 +116,9 @@ module _ {X : Type 0} (P : X → Type 0) where
     } where
       kept-head : (ys : List X) → filter keep (a ∷ ys) ≡ a ∷ filter keep ys
       kept-head ys = rw k refl
+
+    -- so for what a search among the rest found
+    pub kept-option : (xs ys : List X) → LeavesOutIdle keep P xs → filter keep xs ≡ ys → (o : Option X)
+        → MatchOption o (All (λ x. P x → ⊥) ys) (λ a. IsFirst P ys a) → MatchOption o (All (λ x. P x → ⊥) xs) (λ a. IsFirst P xs a)
+    kept-option xs ys i e None h = none-kept xs i (rw e h)
+    kept-option xs ys i e (Some a) h = kept-first xs a i (rw e h)

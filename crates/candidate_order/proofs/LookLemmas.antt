@@ -1,10 +1,10 @@
 -- What the weights and rooms of goals say of a move, goal by goal and of all together.
-use Rattle.std.specs.Prelude.{IfSome, IfNone, IsTrue, ◌↔◌, option_map, Option, Some, None, Bool}
-use Rattle.std.proofs.Common.{◌≡◌, ℕ, ◌<◌, ◌≤◌, List, [], ◌∷◌, length, map, get_or, arith, refl, ◌∙◌, sym, ap, false, true, inl, inr, zero, suc}
+use Rattle.std.specs.Prelude.{IfSome, IfNone, IsTrue, option_map, Option, Some, None, Bool}
+use Rattle.std.proofs.Common.{◌≡◌, ℕ, ◌<◌, ◌≤◌, List, [], ◌∷◌, length, map, get_or, arith, refl, ◌∙◌, sym, ap, false, true, inl, inr}
 use Rattle.std.specs.List.{All}
 use Rattle.std.proofs.lemmas.List.{get_or-map, length-map}
 use Rattle.std.proofs.lemmas.List.Elements.{All-map}
-use Rattle.plan_terms.specs.Cluster.{Cluster, Lists, list_of, leads}
+use Rattle.plan_terms.specs.Cluster.{Lists, list_of, leads}
 use Rattle.plan_terms.specs.Fits.{fits}
 use Rattle.plan_terms.specs.Goal.{Meaning, Accepts, Lessens}
 use Rattle.plan_terms.specs.Trace.{AllAccept}
@@ -12,14 +12,14 @@ use Rattle.plan_terms.specs.declared.actions.Action.{Action}
 use Rattle.plan_terms.specs.declared.actions.Action.TheVariants.{Move}
 use Rattle.plan_terms.specs.declared.cluster.Part.{Part}
 use Rattle.goal_terms.specs.Quantity.{Weights, part_weight, total}
-use Rattle.goal_terms.specs.Rooms.{RoomsDecide, free, StaysIn}
+use Rattle.goal_terms.specs.Rooms.{RoomsDecide, free}
 use Rattle.goal_terms.specs.declared.room.Room.{Room}
-use Rattle.std.proofs.lemmas.Bool.{cases_eq, ne_eqb, false≢true, and_parts, or_parts, not-false}
+use Rattle.std.proofs.lemmas.Bool.{cases_eq, ne_eqb, false≢true, and_parts, or_parts, not-false, not-true}
 use Rattle.goal_terms.specs.Pairs.{ColdPairs, IdleTrades, giver, taker}
 use Rattle.goal_terms.proofs.PairLemmas.{trade-from, trade-to}
 use Rattle.goal_terms.specs.declared.heat.Heat.{Heat}
 use Rattle.goal_terms.specs.declared.heat.Heat.TheVariants as heat
-use Rattle.candidate_order.specs.Looks.{look_out, look_back, BothStay, look_weight, look_whole, look_room, Passes, is_cold, is_above, is_below, may_help}
+use Rattle.candidate_order.specs.Looks.{look_out, look_back, BothStay, look_weight, look_whole, look_room, Passes, is_cold, is_above, is_below, may_help, helps_below_alone}
 
 -- what a goal answers for its weight, and for a room
 pub weight-some : (o : Option Weights) (parts : List Part) (p : ℕ) (first : Bool) (n : ℕ) → Some n ≡ option_map (λ w. part_weight w parts p first) o → n ≡ look_weight o parts p first
@@ -168,6 +168,14 @@ idle-move (Some w) m hot parts lists cold idle p a b fit e less = elim (cases_eq
       let rest = or_parts (is_above (hot a)) (is_below (hot b)) (rw (ne_eqb (part_weight w parts p (leads (list_of lists p) a)) 0 n) at e) in
       idle.falling (Move p a b) fit (not_above (hot a) rest.0) (not_below (hot b) rest.1) (omega arith) less
 ]
+
+-- where a move can help only a broker below its bounds, one to another does not help
+pub below-alone : (o : Option Weights) (m : Meaning) (hot : ℕ → Heat) (parts : List Part) (lists : Lists) → IfSome o (IdleTrades m hot parts lists)
+    → (p a b : ℕ) → IsTrue (fits lists (Move p a b))
+    → helps_below_alone (option_map (λ w. part_weight w parts p (leads (list_of lists p) a)) o) (hot a) ≡ true → is_below (hot b) ≡ false → Lessens m lists (Move p a b) → ⊥
+below-alone None m hot parts lists idle p a b fit e f less = false≢true e
+below-alone (Some w) m hot parts lists idle p a b fit e f less =
+    idle.falling (Move p a b) fit (not_above (hot a) (not-true (is_above (hot a)) e)) (not_below (hot b) f) (omega arith) less
 
 -- any action, by what its two brokers give and get back
 module _ (parts : List Part) (lists : Lists) (a : Action) where

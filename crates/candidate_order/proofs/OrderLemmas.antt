@@ -1,8 +1,8 @@
 -- Lists in order with the same members are the same.
-use Rattle.std.specs.Prelude.{◌==◌, ◌||◌, ◌&&◌, nat_lt, nat_le, Bool, if◌then◌else◌, IsTrue}
+use Rattle.std.specs.Prelude.{◌==◌, ◌||◌, ◌&&◌, nat_lt, nat_le, Bool}
 use Rattle.std.proofs.Common.{◌≡◌, ℕ, ◌<◌, ◌≤◌, ◌++◌, true, false, List, [], ◌∷◌, zero, suc, length, get_or, refl, ap, ◌∙◌, sym, arith, inl, inr, eq-eqb}
 use Rattle.std.specs.List.{All, filter}
-use Rattle.std.proofs.lemmas.Bool.{cases_Bool, cases_eq, cases_lt, eqb-true, ne_eqb, false≢true, true≢false, leb-true, leb-false, ltb-true, ltb-false, lt-ltb, le-ltb}
+use Rattle.std.proofs.lemmas.Bool.{cases_Bool, cases_eq, cases_lt, ne_eqb, false≢true, leb-true, leb-false, lt-ltb, le-ltb}
 use Rattle.std.proofs.lemmas.List.Elements.{All-nil, All-append, All-filter}
 use Rattle.plan_terms.specs.Cluster.{Cluster, Lists, list_of, has}
 use Rattle.candidate_order.specs.CandidateList.{put_by, by_falling, numbers, disk_of, replicas_of}

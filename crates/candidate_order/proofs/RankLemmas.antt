@@ -1,14 +1,14 @@
 -- Rows in order: what comes and what goes.
-use Rattle.std.specs.Prelude.{◌⊎◌, ◌==◌, ◌||◌, ◌&&◌, not, nat_lt, nat_le, Bool, IsTrue}
-use Rattle.std.proofs.Common.{◌≡◌, ℕ, ◌+◌, ◌<◌, ◌≤◌, ◌++◌, true, false, List, [], ◌∷◌, zero, suc, length, get_or, take, drop, refl, ap, ◌∙◌, sym, arith, inl, inr, eq-eqb}
+use Rattle.std.specs.Prelude.{◌⊎◌, ◌==◌, ◌||◌, ◌&&◌, not, nat_lt, nat_le, Bool}
+use Rattle.std.proofs.Common.{◌≡◌, ℕ, ◌+◌, ◌<◌, ◌≤◌, true, false, List, [], ◌∷◌, zero, suc, length, get_or, refl, ap, ◌∙◌, sym, arith, inl, inr, eq-eqb}
 use Rattle.std.specs.List.{All, filter, insert, remove}
-use Rattle.std.proofs.lemmas.Bool.{cases_Bool, cases_eq, cases_lt, ne_eqb, false≢true, eqb-true, leb-true, leb-false, ltb-true, ltb-false, and_parts, not-true, lt-ltb, le-ltb}
+use Rattle.std.proofs.lemmas.Bool.{cases_Bool, cases_eq, cases_lt, ne_eqb, false≢true, ltb-true, and_parts, not-true, lt-ltb, le-ltb}
 use Rattle.std.proofs.lemmas.List.{get_or_default, length_push}
 use Rattle.plan_terms.specs.Cluster.{Cluster, Lists, list_of, has, leads}
 use Rattle.goal_terms.specs.Quantity.{part_weight, load_weights}
-use Rattle.candidate_order.specs.CandidateList.{put_by, by_falling, numbers, disk_of, replicas_of}
+use Rattle.candidate_order.specs.CandidateList.{put_by, by_falling, numbers, disk_of}
 use Rattle.candidate_order.specs.Order.{GoesBefore, IsInOrder, AreReplicasOf}
-use Rattle.candidate_order.specs.Ranks.{IsAhead, IsPlaceFor, IsPut, IsTaken, IsTraded}
+use Rattle.candidate_order.specs.Ranks.{IsAhead, IsPut, IsTaken, IsTraded}
 use Rattle.candidate_order.proofs.RowLemmas.{All-front}
 use Rattle.candidate_order.proofs.OrderLemmas.{replicas-only, member-All}
 
@@ -113,10 +113,10 @@ module _ (g : ℕ → ℕ) where
   order-same f [] e o = tt
   order-same f (x ∷ xs) e o = (
     (λ k d l.
-      let h = o.0 k d l in
-      let one = e 0 x (omega arith) in
-      let other = e (suc k) d (omega arith) in
-      record { falls = omega (arith, h.falls, one, other); ties = λ t. h.ties (omega (arith, t, one, other)) }),
+        let h = o.0 k d l in
+        let one = e 0 x (omega arith) in
+        let other = e (suc k) d (omega arith) in
+        record { falls = omega (arith, h.falls, one, other); ties = λ t. h.ties (omega (arith, t, one, other)) }),
     order-same f xs (λ k d l. e (suc k) d (omega arith)) o.1,
   )
 
@@ -182,15 +182,15 @@ module _ (c : Cluster) (lists later : Lists) (b p : ℕ) (s : SameBut lists late
   gain none comes within f n w xs ys fs h t = record {
     in_order = rw t.is (order-inserted (disk_of c later b) xs t.place p (order-same (disk_of c later b) (disk_of c lists b) xs same h.in_order) t.fits.within
         (λ k l.
-          let a = t.fits.before k l in
-          let e = same k 0 (omega (arith, t.fits.within)) in
-          let e' = fs k 0 (omega (arith, t.fits.within)) in
-          record { falls = omega (arith, a.falls, e, e', w); ties = λ u. a.ties (omega (arith, u, e, e', w)) })
+        let a = t.fits.before k l in
+        let e = same k 0 (omega (arith, t.fits.within)) in
+        let e' = fs k 0 (omega (arith, t.fits.within)) in
+        record { falls = omega (arith, a.falls, e, e', w); ties = λ u. a.ties (omega (arith, u, e, e', w)) })
         (λ k l m.
-          let a = t.fits.behind k l m in
-          let e = same k 0 m in
-          let e' = fs k 0 m in
-          record { falls = omega (arith, a.falls, e, e', w); ties = λ u. a.ties (omega (arith, u, e, e', w)) }));
+        let a = t.fits.behind k l m in
+        let e = same k 0 m in
+        let e' = fs k 0 m in
+        record { falls = omega (arith, a.falls, e, e', w); ties = λ u. a.ties (omega (arith, u, e, e', w)) }));
     members = λ q. rw (t.is, s.count) (has-inserted xs t.place p q ∙ rw (h.members q) (more q));
   } where
     same : All (λ y. disk_of c later b y ≡ disk_of c lists b y) xs
@@ -221,9 +221,9 @@ traded c lists between later b p q s gone s' none comes within n w xs ys h t =
     let m = lose c lists between b p s gone xs t.between h t.taken in
     gain c between later b q s' none comes (omega (arith, s.count, within)) (disk_of c lists b) n w t.between ys
     (λ k d l.
-      let y = get_or t.between k d in
-      let e = sym (m.members y) ∙ has-at t.between k d l in
-      sym (disk-same c lists between b p s y (λ f. false≢true (sym gone ∙ rw f at (and_parts (nat_lt y (length between)) (has (list_of between y) b) e).1))))
+    let y = get_or t.between k d in
+    let e = sym (m.members y) ∙ has-at t.between k d l in
+    sym (disk-same c lists between b p s y (λ f. false≢true (sym gone ∙ rw f at (and_parts (nat_lt y (length between)) (has (list_of between y) b) e).1))))
     m t.put
 
 -- the partitions of replicas are partitions

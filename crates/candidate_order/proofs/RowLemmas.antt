@@ -1,14 +1,13 @@
 -- The moves of a replica, by the rows of the brokers.
-use Rattle.std.specs.Prelude.{List, Bool, nat_le, if◌then◌else◌, cond}
-use Rattle.std.proofs.Common.{◌≡◌, ℕ, ◌<◌, ◌≤◌, ◌++◌, true, false, zero, suc, length, get_or, arith, inl, inr, [], ◌∷◌, map, refl, ap, ◌∙◌, sym}
+use Rattle.std.specs.Prelude.{List, Bool, nat_le, if◌then◌else◌}
+use Rattle.std.proofs.Common.{◌≡◌, ℕ, ◌+◌, take, ◌<◌, ◌≤◌, ◌++◌, true, false, zero, suc, length, get_or, arith, inl, inr, [], ◌∷◌, map, refl, ap, ◌∙◌, sym}
 use Rattle.std.specs.List.{All, flat_map, filter}
 use Rattle.std.proofs.lemmas.Bool.{cases_Bool}
-use Rattle.std.proofs.lemmas.List.{get_or-map, length-map}
-use Rattle.std.proofs.lemmas.List.Elements.{All-append, All-nil, All-filter}
-use Rattle.plan_terms.specs.Legal.{each_below}
+use Rattle.goal_terms.specs.Pairs.{taker}
+use Rattle.std.proofs.lemmas.List.{get_or-map, length-map, take_more, append-nil}
+use Rattle.std.proofs.lemmas.List.Elements.{All-append, All-nil, All-filter, filter-append}
 use Rattle.plan_terms.specs.Cluster.{Cluster, Lists, has, list_of}
 use Rattle.plan_terms.specs.declared.cluster.Broker.{Broker}
-use Rattle.plan_terms.specs.declared.actions.Action.{Action}
 use Rattle.plan_terms.specs.declared.actions.Action.TheVariants.{Move}
 use Rattle.goal_terms.specs.PerBroker.{ids_of}
 use Rattle.candidate_order.specs.CandidateList.{moves_of_replica, replicas_of, by_falling, put_by, numbers}
@@ -22,6 +21,29 @@ through f h (x ∷ xs) = ap (λ ys. f (h x) ∷ ys) (through f h xs)
 pub moves-rows : {R : Type 0} (id : R → ℕ) (rows : List R) (c : Cluster) (a p : ℕ) → map id rows ≡ ids_of c.brokers → moves_of_replica c a p ≡ map (λ r. Move p a (id r)) rows
 moves-rows id rows c a p e =
     through (λ k. Move p a k) (λ (y : Broker). y.id) c.brokers ∙ ap (map (λ k. Move p a k)) (sym e) ∙ sym (through (λ k. Move p a k) id rows)
+
+filter-map : {X Y : Type 0} (q : Y → Bool) (f : X → Y) (xs : List X) → filter q (map f xs) ≡ map f (filter (λ x. q (f x)) xs)
+filter-map q f [] = refl
+filter-map q f (x ∷ xs) = elim (cases_Bool (q (f x))) as (λ _. filter q (map f (x ∷ xs)) ≡ map f (filter (λ x. q (f x)) (x ∷ xs))) [
+  | inl e ↦ rw e (ap (λ ys. f x ∷ ys) (filter-map q f xs))
+  | inr e ↦ rw e (filter-map q f xs)
+]
+
+-- those to the brokers that pass a test, by the rows of these
+pub moves-passed : {R : Type 0} (id : R → ℕ) (rows : List R) (q : ℕ → Bool) (c : Cluster) (a p : ℕ) → map id rows ≡ filter q (ids_of c.brokers)
+    → filter (λ x. q (taker x)) (moves_of_replica c a p) ≡ map (λ r. Move p a (id r)) rows
+moves-passed id rows q c a p e =
+    ap (filter (λ x. q (taker x))) (through (λ k. Move p a k) (λ (y : Broker). y.id) c.brokers)
+    ∙ filter-map (λ x. q (taker x)) (λ k. Move p a k) (ids_of c.brokers)
+    ∙ ap (map (λ k. Move p a k)) (sym e) ∙ sym (through (λ k. Move p a k) id rows)
+
+-- the numbers that pass a test, one more looked at
+module _ (q : ℕ → Bool) (ids : List ℕ) (i k : ℕ) (l : i < length ids) (at : k ≡ get_or ids i 0) (xs : List ℕ) (e : xs ≡ filter q (take i ids)) where
+  pub passed-more : q k ≡ true → xs ++ k ∷ [] ≡ filter q (take (i + 1) ids)
+  passed-more h = rw (take_more ids i 0 l, filter-append q (take i ids) (get_or ids i 0 ∷ []), ← at, ← e, h) refl
+
+  pub passed-less : q k ≡ false → xs ≡ filter q (take (i + 1) ids)
+  passed-less h = rw (take_more ids i 0 l, filter-append q (take i ids) (get_or ids i 0 ∷ []), ← at, ← e, h) (sym (append-nil xs))
 
 -- end to end, by the rows
 through-flat : {X Y Z : Type 0} (f : Y → List Z) (h : X → Y) (xs : List X) → flat_map (λ x. f (h x)) xs ≡ flat_map f (map h xs)

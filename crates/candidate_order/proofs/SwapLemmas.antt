@@ -1,13 +1,12 @@
 -- Swaps that are not legal, or cannot help.
 use Rattle.std.specs.Prelude.{IfSome, IsTrue, option_map, Option, Some, None}
-use Rattle.std.proofs.Common.{◌≡◌, ℕ, ◌<◌, ◌≤◌, List, false, true, inl, inr, arith}
+use Rattle.std.proofs.Common.{◌≡◌, ℕ, ◌<◌, List, false, true, inl, inr, arith}
 use Rattle.std.proofs.lemmas.Bool.{cases_lt, lt-ltb, le-ltb, and_parts, and_from, or_parts, not-false}
 use Rattle.std.proofs.lemmas.Bool.Decides.{nat_tests}
 use Rattle.plan_terms.specs.Cluster.{Cluster, Lists, list_of, leads}
 use Rattle.plan_terms.specs.Fits.{fits}
 use Rattle.plan_terms.specs.Goal.{Meaning, Lessens}
 use Rattle.plan_terms.specs.Legal.{is_legal}
-use Rattle.plan_terms.specs.declared.actions.Action.{Action}
 use Rattle.plan_terms.specs.declared.actions.Action.TheVariants.{Swap}
 use Rattle.plan_terms.specs.declared.cluster.Part.{Part}
 use Rattle.goal_terms.specs.Pairs.{ColdPairs, IdleTrades}

@@ -1,14 +1,13 @@
 -- What an action changes in the rows of brokers.
-use Rattle.std.specs.Prelude.{◌==◌, ◌||◌, ◌&&◌, nat_lt, is_some, IsTrue, if◌then◌else◌}
-use Rattle.std.proofs.Common.{◌≡◌, ℕ, ◌<◌, ◌≤◌, Bool, true, false, eqb, List, [], ◌∷◌, zero, suc, length, map, get_or, set, refl, ap, ◌∙◌, sym, arith, inl, inr, eq-eqb}
-use Rattle.std.proofs.lemmas.Bool.{cases_Bool, cases_eq, lt-ltb, ne_eqb, false≢true, eqb-true, or_parts, or_from, or_cases}
+use Rattle.std.specs.Prelude.{◌==◌, ◌||◌, is_some}
+use Rattle.std.proofs.Common.{◌≡◌, ℕ, ◌<◌, Bool, true, false, List, [], ◌∷◌, suc, length, map, get_or, set, refl, ap, ◌∙◌, sym, arith, inl, inr, eq-eqb}
+use Rattle.std.proofs.lemmas.Bool.{cases_Bool, cases_eq, lt-ltb, ne_eqb, false≢true, eqb-true, or_parts}
 use Rattle.std.proofs.lemmas.List.{get_or-set_other, get_or-set_same, length-set, get_or-map, length-map, get_or_default, same_lists}
-use Rattle.plan_terms.proofs.EffectLemmas.{MoveFits, fits-Move, LeadFits, fits-Lead, SwapFits, fits-Swap, has-in_range}
+use Rattle.plan_terms.proofs.EffectLemmas.{LeadFits, SwapFits}
 use Rattle.plan_terms.proofs.MemberLemmas.{has-replaced, has-later}
-use Rattle.plan_terms.specs.Belongs.{Belongs, distinct}
+use Rattle.plan_terms.specs.Belongs.{distinct}
 use Rattle.plan_terms.specs.Cluster.{Cluster, Lists, list_of, has, leads}
-use Rattle.plan_terms.specs.Effect.{replace, exchange_first, after}
-use Rattle.plan_terms.specs.declared.actions.Action.TheVariants.{Move, Lead, Swap}
+use Rattle.plan_terms.specs.Effect.{replace, exchange_first}
 use Rattle.candidate_order.specs.Order.{AreReplicasOf}
 use Rattle.plan_terms.specs.Cluster.{broker_of}
 use Rattle.plan_terms.specs.declared.cluster.Broker.{Broker}
@@ -155,7 +154,7 @@ order-by-rows c lists order count rows =
     let sizes' : length (map (replicas_of c lists) (ids_of c.brokers)) ≡ length (ids_of c.brokers) = length-map (ids_of c.brokers) (replicas_of c lists) in
     same_lists order (map (replicas_of c lists) (ids_of c.brokers)) (count ∙ sym sizes ∙ sym sizes')
     (λ k d l. get_or_default order k d [] l ∙ rows k (omega (arith, l, count))
-      ∙ sym (get_or-map (replicas_of c lists) (ids_of c.brokers) k 0 d (omega (arith, l, count, sizes))))
+    ∙ sym (get_or-map (replicas_of c lists) (ids_of c.brokers) k 0 d (omega (arith, l, count, sizes))))
     ∙ sym (through (replicas_of c lists) (λ (y : Broker). y.id) c.brokers)
 
 -- the order after an action of two brokers, by their two rows

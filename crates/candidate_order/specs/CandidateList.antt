@@ -1,12 +1,11 @@
 -- The list of all legal actions in the order in which they are tried.
-use Rattle.std.specs.Prelude.{◌≡◌, ℕ, Bool, nat_le, List, [], ◌∷◌, ◌++◌, map, length, if◌then◌else◌}
+use Rattle.std.specs.Prelude.{ℕ, nat_le, List, [], ◌∷◌, ◌++◌, map, length, if◌then◌else◌}
 use Rattle.std.specs.List.{All, filter, flat_map}
 use Rattle.plan_terms.specs.Cluster.{Cluster, Lists, list_of, has, leads}
 use Rattle.plan_terms.specs.Goal.{Meaning}
 use Rattle.plan_terms.specs.Legal.{is_legal, each_below, leads_of}
 use Rattle.plan_terms.specs.Trace.{Step}
 use Rattle.plan_terms.specs.declared.cluster.Broker.{Broker}
-use Rattle.plan_terms.specs.declared.cluster.Part.{Part}
 use Rattle.plan_terms.specs.declared.actions.Action.{Action}
 use Rattle.plan_terms.specs.declared.actions.Action.TheVariants.{Move, Lead, Swap}
 use Rattle.goal_terms.specs.Quantity.{part_weight, load_weights}

@@ -1,6 +1,6 @@
 -- The first of a list that serves.
 use Rattle.std.specs.Prelude.{◌≡◌, ◌++◌, ◌∷◌, Bool, false, List}
-use Rattle.std.specs.List.{All, filter}
+use Rattle.std.specs.List.{All}
 
 -- x serves, and nothing before it in the list does
 pub record IsFirst {X : Type 0} (P : X → Type 0) (xs : List X) (x : X) : Type 0 where

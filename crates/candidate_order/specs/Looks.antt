@@ -58,6 +58,11 @@ abbrev pub may_help : Option ℕ → Heat → Heat → Bool
 may_help None source target = not (is_cold source && is_cold target)
 may_help (Some n) source target = not (n == 0) && (is_above source || is_below target)
 
+-- where the goal has a quantity and the source doesn't lie above its bounds, a move can help only a broker that lies below its own
+abbrev pub helps_below_alone : Option ℕ → Heat → Bool
+helps_below_alone None source = false
+helps_below_alone (Some n) source = not (is_above source)
+
 -- a swap with a broker whose replicas are not looked at yet can help the goal: where it has a quantity, one of the two brokers lies
 -- outside its bounds; elsewhere one of the two is not cold
 abbrev pub may_meet : Option ℕ → Heat → Heat → Bool

@@ -1,13 +1,13 @@
 -- What is known before candidates are tried.
 use Rattle.std.specs.Prelude.{◌≡◌, ℕ, ◌<◌, List, Option, map, length, get_or}
-use Rattle.std.specs.List.{All}
+use Rattle.std.specs.List.{All, filter}
 use Rattle.plan_terms.specs.Cluster.{Cluster}
 use Rattle.plan_terms.specs.declared.cluster.Part.{Part}
 use Rattle.goal_terms.specs.PerBroker.{ids_of}
 use Rattle.goal_terms.specs.Quantity.{Weights}
 use Rattle.goal_terms.specs.declared.heat.Heat.{Heat}
 use Rattle.goal_terms.specs.declared.room.Room.{Room}
-use Rattle.candidate_order.specs.Looks.{look_room, IsWeighed}
+use Rattle.candidate_order.specs.Looks.{is_below, look_room, IsWeighed}
 use Rattle.candidate_order.specs.declared.kept.PartWeights.{PartWeights}
 use Rattle.candidate_order.specs.declared.kept.Row.{Row}
 use Rattle.candidate_order.specs.declared.kept.Scan.{Scan}
@@ -22,8 +22,14 @@ pub record AreWeights {X : Type 0} (weighs : X → Option Weights) (earlier : Li
   pub one_each : length weights ≡ length parts
   pub each : (p : ℕ) (d : PartWeights) → p < length weights → IsWeighed weighs earlier parts p (get_or weights p d).lead.items (get_or weights p d).follow.items
 
+-- of the brokers that lie below their bounds, in their order
+pub record AreBelow {X : Type 0} (weighs : X → Option Weights) (room : X → ℕ → Room) (heat : ℕ → Heat) (earlier : List X) (c : Cluster) (rows : List Row) : Type 0 where
+  pub brokers_are : map (λ (r : Row). r.id) rows ≡ filter (λ b. is_below (heat b)) (ids_of c.brokers)
+  pub rows_are : All (IsRow weighs room heat earlier) rows
+
 -- of all partitions, and of the brokers in their order
 pub record IsScan {X : Type 0} (weighs : X → Option Weights) (room : X → ℕ → Room) (heat : ℕ → Heat) (earlier : List X) (c : Cluster) (s : Scan) : Type 0 where
   pub weights_are : AreWeights weighs earlier c.parts s.weights.items
   pub brokers_are : map (λ (r : Row). r.id) s.rows.items ≡ ids_of c.brokers
   pub rows_are : All (IsRow weighs room heat earlier) s.rows.items
+  pub below_are : AreBelow weighs room heat earlier c s.below.items

@@ -1,8 +1,9 @@
 // What is known before candidates are tried.
 ghost use Rattle.std.specs.Prelude.{◌≡◌, ◌<◌, ℕ, true, false, IfOk, IsTrue, map, length};
 ghost use Rattle.std.specs.List.{All};
-ghost use Rattle.candidate_order.specs.Looks.{is_cold, look_weight, look_whole, IsWeighed};
-ghost use Rattle.candidate_order.specs.Scan.{IsRow, AreWeights, IsScan};
+ghost use Rattle.candidate_order.specs.Looks.{is_below, is_cold, look_weight, look_whole, IsWeighed};
+ghost use Rattle.candidate_order.specs.declared.kept.Row.{Row};
+ghost use Rattle.candidate_order.specs.Scan.{AreBelow, AreWeights, IsRow, IsScan};
 ghost use Rattle.goal_terms.specs.declared.heat.Heat.TheVariants as heat;
 ghost use Rattle.goal_terms.specs.PerBroker.{id_at, ids_of};
 ghost use Rattle.plan_terms.specs.Belongs.{IsBookOf};
@@ -37,6 +38,8 @@ pub struct Scan {
     pub weights: Vec<PartWeights>,
     /// Of each broker, in their order.
     pub rows: Vec<Row>,
+    /// Of the brokers that lie below their bounds, in their order.
+    pub below: Vec<Row>,
 }
 
 // What the places of one partition weigh.
@@ -143,6 +146,54 @@ pub fn all_rows<G: Goal>(
     Ok(rows)
 }
 
+impl Row {
+    // The same row.
+    fn copy(&self, alloc: Global) -> Result<Row, Memory>
+        ensures id { IfOk result (λ r. r.id ≡ self.now.id) }
+        ensures rooms { IfOk result (λ r. r.rooms.items ≡ self.now.rooms.items) }
+        ensures heat { IfOk result (λ r. r.heat ≡ self.now.heat) }
+    {
+        let rooms = Vec::from_slice(alloc, self.rooms.as_slice())?;
+        Ok(Row {
+            id: self.id,
+            rooms,
+            heat: self.heat,
+        })
+    }
+}
+
+fn is_below(heat: Heat) -> bool
+    ensures { result ≡ is_below heat }
+{
+    matches!(heat, Heat::Below)
+}
+
+/// What is kept of the brokers that lie below their bounds, in their order.
+pub fn all_below<G: Goal>(
+    alloc: Global,
+    case: &Case,
+    book: &LoadBook,
+    earlier: &[G],
+    goal: &G,
+    rows: &[Row],
+) -> Result<Vec<Row>, Memory>
+    requires brokers { map (λ (r : Row). r.id) rows.now ≡ ids_of case.now.brokers }
+    requires rows { All (IsRow G.weighs (λ g. G.room_at g case.now book.now.lists) (G.heat_at goal.now case.now book.now.lists) earlier.now) rows.now }
+    ensures { IfOk result (λ v. AreBelow G.weighs (λ g. G.room_at g case.now book.now.lists) (G.heat_at goal.now case.now book.now.lists) earlier.now case.now v.items) }
+{
+    let _brokers = case.brokers();
+    let _lists = book.lists();
+    let _goals = earlier.len();
+    let mut below = Vec::new(alloc);
+    for row in rows {
+        if is_below(row.heat) {
+            let copy = row.copy(alloc)?;
+            below.push(copy)?;
+        }
+    }
+    Ok(below)
+}
+
 impl Scan {
     /// What no action changes.
     pub fn new<G: Goal>(alloc: Global, case: &Case, earlier: &[G]) -> Result<Scan, Memory>
@@ -153,6 +204,7 @@ impl Scan {
         Ok(Scan {
             weights,
             rows: Vec::new(alloc),
+            below: Vec::new(alloc),
         })
     }
 }

@@ -14,7 +14,7 @@ mod rows;
 mod swaps;
 mod trades;
 
-pub use kept::{PartWeights, Row, Scan, all_rows, all_weights};
+pub use kept::{PartWeights, Row, Scan, all_below, all_rows, all_weights};
 pub use laws::{candidates_are_all, filters_keep_the_first, moves_come_first, replicas_are_unique};
 pub use leads::first_lead;
 pub use looks::{all_give, all_pass, rooms_of, weights_of, wholes_of};
@@ -22,6 +22,6 @@ pub use next::next_lessening;
 pub use nexts::next_in;
 pub use order::Order;
 pub use plain::{Kind, all_accept, plain_next};
-pub use rows::first_to;
+pub use rows::{first_anywhere, first_to};
 pub use swaps::first_swap;
 pub use trades::{all_stay, trade_serves};

@@ -7,7 +7,7 @@ ghost use Rattle.candidate_order.specs.Scan.{AreWeights, IsScan};
 ghost use Rattle.plan_terms.specs.Belongs.{IsBookOf};
 ghost use Rattle.plan_terms.specs.Trace.{NoneLeft};
 
-use crate::kept::{Scan, all_cold, all_rows};
+use crate::kept::{Scan, all_below, all_cold, all_rows};
 use crate::nexts::next_in;
 use crate::order::Order;
 use crate::plain::Kind;
@@ -75,5 +75,6 @@ pub fn next_lessening<G: Goal>(
         (λ a. FirstStep case.now (map (λ g. G.meaning g case.now) earlier.now) (G.meaning goal.now case.now) book.now.lists a)) }
 {
     scan.rows = all_rows(alloc, case, book, earlier, goal)?;
+    scan.below = all_below(alloc, case, book, earlier, goal, scan.rows.as_slice())?;
     Ok(first_candidate(case, book, order, earlier, goal, scan))
 }

@@ -12,9 +12,9 @@ ghost use Rattle.plan_terms.specs.Trace.{Step};
 use crate::kept::{Row, Scan, column};
 use crate::leads::first_lead;
 use crate::order::Order;
-use crate::ranks::is_first;
 use crate::plain::Kind;
-use crate::rows::first_to;
+use crate::ranks::is_first;
+use crate::rows::first_anywhere;
 use crate::swaps::first_swap;
 use load_model::{Case, LoadBook};
 use move_actions::{Action, Goal};
@@ -43,7 +43,7 @@ fn first_move<G: Goal>(
     let first = is_first(book.list(part as usize), source.id);
     let own = goal.weight(case, part, first);
     let weights = column(case, earlier, scan.weights.as_slice(), part, first);
-    first_to(case, book, earlier, goal, scan, part, source, weights, own)
+    first_anywhere(case, book, earlier, goal, scan, part, source, weights, own)
 }
 
 // The first lead of one partition that serves, where the source is its first member.
@@ -157,7 +157,9 @@ pub fn next_in<G: Goal>(
     let rows = scan.rows.as_slice();
     for (k, source) in rows.iter().enumerate() {
         let replicas = order.row(k);
-        let found = first_of(kind, case, book, order, earlier, goal, scan, source, replicas);
+        let found = first_of(
+            kind, case, book, order, earlier, goal, scan, source, replicas,
+        );
         if let Some(action) = found {
             return Some(action);
         }

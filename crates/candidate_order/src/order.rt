@@ -95,7 +95,15 @@ impl Order {
     }
 
     // Puts a partition of that weight into the row of the broker at a place.
-    fn gain(&mut self, case: &Case, book: &LoadBook, broker: u32, place: usize, part: u32, weight: u64)
+    fn gain(
+        &mut self,
+        case: &Case,
+        book: &LoadBook,
+        broker: u32,
+        place: usize,
+        part: u32,
+        weight: u64,
+    )
         requires belongs { IsBookOf case.now book.now }
         requires place { place < length self.old }
         requires old { AreReplicasOf case.now book.now.lists broker (get_or self.old place []) }
@@ -107,7 +115,16 @@ impl Order {
     }
 
     // Takes one partition out of the row of the broker at a place and puts another in.
-    fn trade(&mut self, case: &Case, book: &LoadBook, broker: u32, place: usize, gone: u32, part: u32, weight: u64)
+    fn trade(
+        &mut self,
+        case: &Case,
+        book: &LoadBook,
+        broker: u32,
+        place: usize,
+        gone: u32,
+        part: u32,
+        weight: u64,
+    )
         requires belongs { IsBookOf case.now book.now }
         requires place { place < length self.old }
         requires old { AreReplicasOf case.now book.now.lists broker (get_or self.old place []) }
@@ -116,7 +133,15 @@ impl Order {
         ensures others { self.new ≡ slice_set self.old place (get_or self.new place []) }
         ensures row { IsTraded (disk_of case.now book.now.lists broker) gone weight part (get_or self.old place []) (get_or self.new place []) }
     {
-        trade_in(case, book, broker, &mut self.rows[place], gone, part, weight);
+        trade_in(
+            case,
+            book,
+            broker,
+            &mut self.rows[place],
+            gone,
+            part,
+            weight,
+        );
     }
 
     // What a move changes.
@@ -154,7 +179,15 @@ impl Order {
     }
 
     // What a swap changes.
-    fn after_swap(&mut self, case: &Case, book: &LoadBook, part: u32, from: u32, other: u32, to: u32)
+    fn after_swap(
+        &mut self,
+        case: &Case,
+        book: &LoadBook,
+        part: u32,
+        from: u32,
+        other: u32,
+        to: u32,
+    )
         requires belongs { IsBookOf case.now book.now }
         requires order { IsOrderOf case.now book.now.lists self.old }
         requires applies { IsTrue (fits book.now.lists (Action.Swap part from other to)) }

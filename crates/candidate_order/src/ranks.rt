@@ -92,7 +92,11 @@ pub(crate) fn disk(case: &Case, part: u32, leads: bool) -> u64
     ensures { result ≡ part_weight (load_weights 3) case.now.parts part leads }
 {
     let loads = &case.parts()[part as usize].loads;
-    if leads { loads.lead[3] } else { loads.follow[3] }
+    if leads {
+        loads.lead[3]
+    } else {
+        loads.follow[3]
+    }
 }
 
 // What the broker's place of a partition adds.

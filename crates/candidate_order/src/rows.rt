@@ -3,8 +3,9 @@ ghost use Rattle.std.specs.Prelude.{◌≡◌, ◌<◌, ◌↔◌, ℕ, true, fa
 ghost use Rattle.std.specs.List.{All};
 ghost use Rattle.candidate_order.specs.CandidateList.{moves_of_replica, NoStep};
 ghost use Rattle.candidate_order.specs.First.{IsFirst};
-ghost use Rattle.candidate_order.specs.Looks.{look_weight, may_help};
+ghost use Rattle.candidate_order.specs.Looks.{helps_below_alone, look_weight, may_help};
 ghost use Rattle.candidate_order.specs.Scan.{IsRow, IsScan};
+ghost use Rattle.candidate_order.specs.declared.kept.Row.{Row};
 ghost use Rattle.goal_terms.specs.Quantity.{part_weight};
 ghost use Rattle.plan_terms.specs.Belongs.{IsBookOf};
 ghost use Rattle.plan_terms.specs.Cluster.{list_of, leads};
@@ -113,8 +114,58 @@ fn move_serves<G: Goal>(
     others_accept(case, book, earlier, part, action)
 }
 
-/// The first move of one replica that serves, by the order of the brokers.
+/// The first move of one replica to some brokers that serves, in their order.
 pub fn first_to<G: Goal>(
+    case: &Case,
+    book: &LoadBook,
+    earlier: &[G],
+    goal: &G,
+    rows: &[Row],
+    part: u32,
+    source: &Row,
+    weights: &[u64],
+    own: Option<u64>,
+) -> Option<Action>
+    requires made { All (λ g. G.made_for g case.now) earlier.now }
+    requires made_goal { G.made_for goal.now case.now }
+    requires belongs { IsBookOf case.now book.now }
+    requires rows { All (IsRow G.weighs (λ g. G.room_at g case.now book.now.lists) (G.heat_at goal.now case.now book.now.lists) earlier.now) rows.now }
+    requires part { part < length case.now.parts }
+    requires source { IsRow G.weighs (λ g. G.room_at g case.now book.now.lists) (G.heat_at goal.now case.now book.now.lists) earlier.now source.now }
+    requires weights { weights.now ≡ map (λ g. look_weight (G.weighs g) case.now.parts part (leads (list_of book.now.lists part) source.now.id)) earlier.now }
+    requires own { own ≡ option_map (λ w. part_weight w case.now.parts part (leads (list_of book.now.lists part) source.now.id)) (G.weighs goal.now) }
+    ensures { MatchOption result
+        (NoStep case.now (map (λ g. G.meaning g case.now) earlier.now) (G.meaning goal.now case.now) book.now.lists (map (λ (r : Row). Action.Move part source.now.id r.id) rows.now))
+        (λ a. IsFirst (Step case.now (map (λ g. G.meaning g case.now) earlier.now) (G.meaning goal.now case.now) book.now.lists) (map (λ (r : Row). Action.Move part source.now.id r.id) rows.now) a) }
+{
+    let givers = source.rooms.as_slice();
+    if !may_leave(case, book, earlier, part, source.id, weights, givers) {
+        return None;
+    }
+    for row in rows {
+        if move_serves(case, book, earlier, goal, part, source, weights, own, row) {
+            return Some(Action::Move {
+                part,
+                from: source.id,
+                to: row.id,
+            });
+        }
+    }
+    None
+}
+
+// Whether only a broker that lies below its bounds can be helped by that replica, if any.
+fn helps_below_alone(own: Option<u64>, source: Heat) -> bool
+    ensures { result ≡ helps_below_alone own source }
+{
+    match own {
+        Some(_) => !matches!(source, Heat::Above),
+        None => false,
+    }
+}
+
+/// The first move of one replica that serves, by the order of the brokers.
+pub fn first_anywhere<G: Goal>(
     case: &Case,
     book: &LoadBook,
     earlier: &[G],
@@ -137,19 +188,11 @@ pub fn first_to<G: Goal>(
         (NoStep case.now (map (λ g. G.meaning g case.now) earlier.now) (G.meaning goal.now case.now) book.now.lists (moves_of_replica case.now source.now.id part))
         (λ a. IsFirst (Step case.now (map (λ g. G.meaning g case.now) earlier.now) (G.meaning goal.now case.now) book.now.lists) (moves_of_replica case.now source.now.id part) a) }
 {
-    let givers = source.rooms.as_slice();
-    if !may_leave(case, book, earlier, part, source.id, weights, givers) {
-        return None;
+    let _brokers = case.brokers();
+    if !helps_below_alone(own, source.heat) {
+        let rows = scan.rows.as_slice();
+        return first_to(case, book, earlier, goal, rows, part, source, weights, own);
     }
-    let rows = scan.rows.as_slice();
-    for row in rows {
-        if move_serves(case, book, earlier, goal, part, source, weights, own, row) {
-            return Some(Action::Move {
-                part,
-                from: source.id,
-                to: row.id,
-            });
-        }
-    }
-    None
+    let below = scan.below.as_slice();
+    first_to(case, book, earlier, goal, below, part, source, weights, own)
 }

@@ -1,5 +1,5 @@
 -- Runs that take the first candidate each time, one action or one turn longer.
-use Rattle.std.proofs.Common.{◌≡◌, ℕ, ◌<◌, List, [], ◌∷◌, ◌++◌, length, take, get_or, sym, arith, append_assoc}
+use Rattle.std.proofs.Common.{◌≡◌, ◌<◌, List, [], ◌∷◌, ◌++◌, length, take, get_or, arith, append_assoc}
 use Rattle.std.proofs.lemmas.List.{append-nil}
 use Rattle.candidate_order.specs.CandidateList.{FirstStep}
 use Rattle.goal_optimizer.specs.Firsts.{FirstSteps, FirstTurns}

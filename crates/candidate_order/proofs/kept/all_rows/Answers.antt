@@ -1,4 +1,4 @@
-use Rattle.std.proofs.Common.{◌<◌, map, length, ◌∷◌, [], sym, ap, arith}
+use Rattle.std.proofs.Common.{◌<◌, length, ◌∷◌, [], sym, ap, arith}
 use Rattle.std.proofs.lemmas.List.{map-append, take_more, length-map}
 use Rattle.std.proofs.lemmas.List.Elements.{All-push}
 use Rattle.plan_terms.specs.declared.cluster.Broker.{Broker}

@@ -1,4 +1,4 @@
-use Rattle.std.proofs.Common.{ℕ, ◌<◌, ◌≤◌, get_or}
+use Rattle.std.proofs.Common.{ℕ, ◌<◌, get_or}
 use Rattle.goal_terms.specs.Rooms.{free}
 use Rattle.candidate_order.specs.Looks.{Passes}
 use Rattle.candidate_order.proofs.looks.all_pass.Given as goal

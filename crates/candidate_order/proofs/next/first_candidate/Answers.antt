@@ -1,7 +1,6 @@
 use Rattle.std.proofs.Common.{◌≡◌, map, refl}
 use Rattle.std.specs.List.{All}
 use Rattle.goal_terms.specs.PerBroker.{ids_of}
-use Rattle.candidate_order.specs.CandidateList.{NoStep, lead_list}
 use Rattle.candidate_order.specs.declared.kept.Row.{Row}
 use Rattle.candidate_order.proofs.Complete.{NoneLeft-candidates}
 use Rattle.candidate_order.proofs.KindLemmas.{by_kind, leads-in, none-cold, cold-rows}

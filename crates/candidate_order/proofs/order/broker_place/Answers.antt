@@ -1,4 +1,4 @@
-use Rattle.std.proofs.Common.{◌≡◌, ℕ, Some, None, ◌∙◌, ap, sym}
+use Rattle.std.proofs.Common.{◌≡◌, ℕ, Some, None, ◌∙◌, ap}
 use Rattle.goal_terms.specs.PerBroker.{id_at}
 use Rattle.candidate_order.proofs.TurnLemmas.{known-place}
 use Rattle.candidate_order.proofs.order.broker_place.Goals as goal

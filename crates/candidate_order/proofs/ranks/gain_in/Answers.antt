@@ -1,4 +1,4 @@
-use Rattle.std.proofs.Common.{◌∙◌, arith}
+use Rattle.std.proofs.Common.{arith}
 use Rattle.candidate_order.proofs.RankLemmas.{few-replicas, members-within}
 use Rattle.candidate_order.proofs.ranks.gain_in.Goals as goal
 

@@ -1,13 +1,11 @@
-use Rattle.std.proofs.Common.{◌∙◌, sym, refl, map, get_or}
+use Rattle.std.proofs.Common.{refl, map, get_or}
 use Rattle.std.proofs.lemmas.Bool.{false≢true}
 use Rattle.std.proofs.lemmas.List.{take_all}
 use Rattle.std.proofs.lemmas.List.Elements.{All-more, All-map}
 use Rattle.plan_terms.proofs.EffectLemmas.{fits-legal}
 use Rattle.plan_terms.specs.Trace.{Step}
 use Rattle.plan_terms.specs.declared.actions.Action.TheVariants.{Move}
-use Rattle.plan_terms.specs.declared.cluster.Broker.{Broker}
 use Rattle.candidate_order.proofs.Firsts.{first-at}
-use Rattle.candidate_order.proofs.RowLemmas.{moves-rows}
 use Rattle.candidate_order.specs.declared.kept.Row.{Row}
 use Rattle.candidate_order.proofs.rows.first_to.Goals as goal
 
@@ -15,16 +13,15 @@ pub returns-then-not-may_leave : goal.returns-then-not-may_leave
 returns-then-not-may_leave g c =
     let case = c.args.case.now in
     let lists = c.args.book.now.lists in
-    All-map (λ a. Step case (map (λ x. g.G.Goal.meaning x case) c.args.earlier.now) (g.G.Goal.meaning c.args.goal.now case) lists a → ⊥) (λ (y : Broker). Move c.args.part c.args.source.now.id y.id) case.brokers
-    (λ k y l s. c.if-not-may_leave.ensures refl (get_or case.brokers k y).id (fits-legal case lists (Move c.args.part c.args.source.now.id (get_or case.brokers k y).id) s.legal) s.accepted)
+    All-map (λ a. Step case (map (λ x. g.G.Goal.meaning x case) c.args.earlier.now) (g.G.Goal.meaning c.args.goal.now case) lists a → ⊥) (λ (r : Row). Move c.args.part c.args.source.now.id r.id) c.args.rows.now
+    (λ k r l s. c.if-not-may_leave.ensures refl (get_or c.args.rows.now k r).id (fits-legal case lists (Move c.args.part c.args.source.now.id (get_or c.args.rows.now k r).id) s.legal) s.accepted)
 
 pub returns-then-move_serves : goal.returns-then-move_serves
 returns-then-move_serves g c =
     let case = c.args.case.now in
     let lists = c.args.book.now.lists in
-    rw (moves-rows (λ (r : Row). r.id) c.as_slice-rows.result.now case c.args.source.now.id c.args.part (rw c.as_slice-rows.ensures.value c.requires.scan.brokers_are))
-    (first-at (Step case (map (λ x. g.G.Goal.meaning x case) c.args.earlier.now) (g.G.Goal.meaning c.args.goal.now case) lists) (λ (r : Row). Move c.args.part c.args.source.now.id r.id) c.as_slice-rows.result.now c.loop-row.row-index c.row-item.result
-    c.loop-row-test.true c.loop-row.invariant c.row-item.is (c.if-move_serves.ensures.0 refl))
+    first-at (Step case (map (λ x. g.G.Goal.meaning x case) c.args.earlier.now) (g.G.Goal.meaning c.args.goal.now case) lists) (λ (r : Row). Move c.args.part c.args.source.now.id r.id) c.args.rows.now c.loop-row.row-index c.row-item.result
+    c.loop-row-test.true c.loop-row.invariant c.row-item.is (c.if-move_serves.ensures.0 refl)
 
 pub loop-row-preserved : goal.loop-row-preserved
 loop-row-preserved g c =
@@ -33,13 +30,12 @@ loop-row-preserved g c =
     let no : Step case (map (λ x. g.G.Goal.meaning x case) c.args.earlier.now) (g.G.Goal.meaning c.args.goal.now case) lists (Move c.args.part c.args.source.now.id c.row-item.result.id) → ⊥ =
     λ s. false≢true (c.if-move_serves.ensures.1 s) in
     All-more (λ (r : Row). Step case (map (λ x. g.G.Goal.meaning x case) c.args.earlier.now) (g.G.Goal.meaning c.args.goal.now case) lists (Move c.args.part c.args.source.now.id r.id) → ⊥)
-    c.as_slice-rows.result.now c.loop-row.row-index c.row-item.result c.loop-row-test.true c.loop-row.invariant
+    c.args.rows.now c.loop-row.row-index c.row-item.result c.loop-row-test.true c.loop-row.invariant
     (rw c.row-item.is at no)
 
 pub returns : goal.returns
 returns g c =
     let case = c.args.case.now in
     let lists = c.args.book.now.lists in
-    rw (moves-rows (λ (r : Row). r.id) c.as_slice-rows.result.now case c.args.source.now.id c.args.part (rw c.as_slice-rows.ensures.value c.requires.scan.brokers_are))
-    (All-map (λ a. Step case (map (λ x. g.G.Goal.meaning x case) c.args.earlier.now) (g.G.Goal.meaning c.args.goal.now case) lists a → ⊥) (λ (r : Row). Move c.args.part c.args.source.now.id r.id) c.as_slice-rows.result.now
-    (rw (take_all c.loop-row.row-index c.as_slice-rows.result.now c.loop-row-test.false) at c.loop-row.invariant))
+    All-map (λ a. Step case (map (λ x. g.G.Goal.meaning x case) c.args.earlier.now) (g.G.Goal.meaning c.args.goal.now case) lists a → ⊥) (λ (r : Row). Move c.args.part c.args.source.now.id r.id) c.args.rows.now
+    (rw (take_all c.loop-row.row-index c.args.rows.now c.loop-row-test.false) at c.loop-row.invariant)

@@ -1,4 +1,4 @@
-use Rattle.std.proofs.Common.{◌∙◌, sym, arith}
+use Rattle.std.proofs.Common.{sym, arith}
 use Rattle.std.proofs.lemmas.Bool.{false≢true}
 use Rattle.plan_terms.proofs.EffectLemmas.{fits-legal}
 use Rattle.plan_terms.specs.declared.actions.Action.TheVariants.{Swap}

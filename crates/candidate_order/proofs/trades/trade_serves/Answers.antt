@@ -1,4 +1,4 @@
-use Rattle.std.proofs.Common.{◌∙◌, sym, refl, get_or}
+use Rattle.std.proofs.Common.{sym, refl, get_or}
 use Rattle.std.proofs.lemmas.Bool.{false≢true}
 use Rattle.plan_terms.proofs.EffectLemmas.{fits-legal, targets_known-legal}
 use Rattle.candidate_order.proofs.LookLemmas.{all-stay, stay-all, all-others, all-both}

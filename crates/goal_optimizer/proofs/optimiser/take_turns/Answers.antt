@@ -23,6 +23,11 @@ loop-place-init c = record {
   order_is = c.in_ok-order.ensures;
 }
 
+pub bounds-goals-place : goal.bounds-goals-place
+bounds-goals-place c =
+    let same = same_length (λ g. any_meaning g c.args.case.now) (λ k. meaning_of k c.args.case.now) c.args.goals.now c.args.kinds.now c.requires.meanings in
+    omega (arith, same, c.loop-place-test.true)
+
 pub slice_bounds-take_turn-end : goal.slice_bounds-take_turn-end
 slice_bounds-take_turn-end c =
     let same = same_length (λ g. any_meaning g c.args.case.now) (λ k. meaning_of k c.args.case.now) c.args.goals.now c.args.kinds.now c.requires.meanings in

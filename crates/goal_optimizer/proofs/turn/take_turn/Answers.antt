@@ -1,5 +1,4 @@
 use Rattle.plan_terms.proofs.SameLemmas.{SameLoads-by}
-use Rattle.std.proofs.Common.{◌∙◌}
 use Rattle.plan_terms.proofs.EffectLemmas.{fits-legal, targets_known-legal, Belongs-legal}
 use Rattle.plan_terms.proofs.Runs.{Steps-nil, Steps-push, after_all-push}
 use Rattle.goal_optimizer.proofs.Firsts.{firsts-nil, firsts-push}

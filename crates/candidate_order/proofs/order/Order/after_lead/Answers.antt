@@ -1,5 +1,5 @@
-use Rattle.std.proofs.Common.{◌≡◌, ℕ, false, [], length, get_or, set, refl, sym, ap, ◌∙◌, arith, inr}
-use Rattle.std.proofs.lemmas.List.{get_or-set_other, get_or-set_same, length-set}
+use Rattle.std.proofs.Common.{◌≡◌, [], get_or, set, sym, ap, ◌∙◌}
+use Rattle.std.proofs.lemmas.List.{get_or-set_other, get_or-set_same}
 use Rattle.plan_terms.proofs.EffectLemmas.{fits-Lead}
 use Rattle.plan_terms.specs.Cluster.{list_of, has, leads}
 use Rattle.plan_terms.specs.Effect.{exchange_first}

@@ -1,4 +1,4 @@
-use Rattle.std.proofs.Common.{◌≡◌, ℕ, false, [], get_or, set, refl, sym, ap, ◌∙◌}
+use Rattle.std.proofs.Common.{◌≡◌, [], get_or, set, refl, sym, ap, ◌∙◌}
 use Rattle.std.proofs.lemmas.Bool.{ne_eqb}
 use Rattle.std.proofs.lemmas.List.{get_or-set_other, get_or-set_same}
 use Rattle.plan_terms.proofs.EffectLemmas.{fits-Move}
@@ -30,7 +30,7 @@ gain-requires-clause-old c =
     let i = c.broker_place-giver.result in
     let j = c.broker_place-taker.result in
     let n : j ≡ i → ⊥ = λ e. apart-members (list_of c.args.book.now.lists c.args.part) c.args.from c.args.to fit.source fit.target
-        (sym c.broker_place-taker.ensures.id ∙ ap (id_at c.args.case.now.brokers) e ∙ c.broker_place-giver.ensures.id) in
+    (sym c.broker_place-taker.ensures.id ∙ ap (id_at c.args.case.now.brokers) e ∙ c.broker_place-giver.ensures.id) in
     rw (c.lose.ensures.others, get_or-set_other c.args.self.now i j (get_or c.lose.new.self i []) [] n)
     (row-of c.args.case.now c.args.book.now.lists c.args.self.now c.requires.order j c.args.to c.broker_place-taker.ensures.within c.broker_place-taker.ensures.id)
 

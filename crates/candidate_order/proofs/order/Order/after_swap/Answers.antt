@@ -1,5 +1,5 @@
-use Rattle.std.proofs.Common.{◌≡◌, ℕ, false, [], length, get_or, set, refl, sym, ap, ◌∙◌, arith, inl, inr}
-use Rattle.std.proofs.lemmas.List.{get_or-set_other, get_or-set_same, length-set}
+use Rattle.std.proofs.Common.{◌≡◌, [], get_or, set, sym, ap, ◌∙◌, inl}
+use Rattle.std.proofs.lemmas.List.{get_or-set_other, get_or-set_same}
 use Rattle.plan_terms.proofs.EffectLemmas.{fits-Swap}
 use Rattle.plan_terms.specs.Cluster.{list_of, has, leads}
 use Rattle.goal_terms.specs.PerBroker.{id_at}
@@ -43,7 +43,7 @@ trade-requires-2-clause-old c =
     let i = c.broker_place-giver.result in
     let j = c.broker_place-taker.result in
     let n : j ≡ i → ⊥ = λ e. apart-members (list_of lists c.args.part) c.args.from c.args.to fit.source fit.target_comes
-        (sym c.broker_place-taker.ensures.id ∙ ap (id_at c.args.case.now.brokers) e ∙ c.broker_place-giver.ensures.id) in
+    (sym c.broker_place-taker.ensures.id ∙ ap (id_at c.args.case.now.brokers) e ∙ c.broker_place-giver.ensures.id) in
     rw (c.trade.ensures.others, get_or-set_other c.args.self.now i j (get_or c.trade.new.self i []) [] n)
     (row-of c.args.case.now lists c.args.self.now c.requires.order j c.args.to c.broker_place-taker.ensures.within c.broker_place-taker.ensures.id)
 
@@ -54,7 +54,7 @@ trade-requires-2-clause-member c =
     let i = c.broker_place-giver.result in
     let j = c.broker_place-taker.result in
     let n : j ≡ i → ⊥ = λ e. apart-members (list_of lists c.args.part) c.args.from c.args.to fit.source fit.target_comes
-        (sym c.broker_place-taker.ensures.id ∙ ap (id_at c.args.case.now.brokers) e ∙ c.broker_place-giver.ensures.id) in
+    (sym c.broker_place-taker.ensures.id ∙ ap (id_at c.args.case.now.brokers) e ∙ c.broker_place-giver.ensures.id) in
     rw (c.trade.ensures.others, get_or-set_other c.args.self.now i j (get_or c.trade.new.self i []) [] n)
     (row-has c.args.case.now lists c.args.self.now c.requires.order j c.args.to c.broker_place-taker.ensures.within c.broker_place-taker.ensures.id c.args.other fit.second ∙ fit.target)
 
@@ -65,9 +65,9 @@ trade-requires-2-clause-new c =
     let i = c.broker_place-giver.result in
     let j = c.broker_place-taker.result in
     let n : j ≡ i → ⊥ = λ e. apart-members (list_of lists c.args.part) c.args.from c.args.to fit.source fit.target_comes
-        (sym c.broker_place-taker.ensures.id ∙ ap (id_at c.args.case.now.brokers) e ∙ c.broker_place-giver.ensures.id) in
+    (sym c.broker_place-taker.ensures.id ∙ ap (id_at c.args.case.now.brokers) e ∙ c.broker_place-giver.ensures.id) in
     inl (ap (λ row. has row c.args.part) (ap (λ o. get_or o j []) c.trade.ensures.others ∙ get_or-set_other c.args.self.now i j (get_or c.trade.new.self i []) [] n)
-      ∙ row-has c.args.case.now lists c.args.self.now c.requires.order j c.args.to c.broker_place-taker.ensures.within c.broker_place-taker.ensures.id c.args.part fit.first ∙ fit.target_comes)
+    ∙ row-has c.args.case.now lists c.args.self.now c.requires.order j c.args.to c.broker_place-taker.ensures.within c.broker_place-taker.ensures.id c.args.part fit.first ∙ fit.target_comes)
 
 pub returns : goal.returns
 returns c =
