@@ -1,0 +1,5 @@
+pub mod Changed
+pub mod Indexed
+pub mod LoadLemmas
+pub mod Members
+pub mod Topics
