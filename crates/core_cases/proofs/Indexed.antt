@@ -1,28 +1,13 @@
 -- The index grows by a topic or by a partition.
-use Rattle.std.proofs.Common.{◌≡◌, ◌∙◌, ℕ, ◌+◌, ◌<◌, ◌≤◌, Bool, true, false, cond, eqb, ◌&&◌, List, [], ◌∷◌, ◌++◌, length, nat_lt, Option, Some, None, refl, sym, ap, arith, inl, inr, ◌⊎◌, bytes_eq, position, not, is_some}
+use Rattle.std.proofs.Common.{◌≡◌, ◌∙◌, ℕ, ◌+◌, ◌<◌, ◌≤◌, Bool, true, false, cond, eqb, ◌&&◌, List, [], ◌∷◌, ◌++◌, length, Option, Some, None, refl, sym, ap, arith, inl, inr, ◌⊎◌, bytes_eq, is_some}
 use Rattle.std.specs.Map.{update}
 use Rattle.std.specs.Option.{option_or}
-use Rattle.std.specs.List.{position_or_len}
 use Rattle.std.proofs.lemmas.Bool.{eq-eqb, eqb-true, ne_eqb, false≢true}
-use Rattle.std.proofs.lemmas.Bool.Decides.{nat_tests}
-use Rattle.std.proofs.lemmas.List.{length_push}
-use Rattle.std.proofs.lemmas.List.Folds.{position_or_len_push}
-use Rattle.std.proofs.lemmas.List.Sums.{prefix_len-le-length}
 use Rattle.std.proofs.lemmas.Slice.Eq.{bytes_eq-Decides}
 use Rattle.plan_terms.specs.declared.cluster.Part.{Part}
+use Rattle.executor_core.proofs.Places.{position-push}
 use Rattle.core_terms.specs.Works.{part_place}
 use Rattle.core_cases.specs.Index.{IsIndex, place_behind}
-
-module _ {X : Type 0} (p : X → Bool) where
-  found-push : (n l : ℕ) (b : Bool) → n ≤ l → cond (nat_lt (cond (eqb n l) (l + cond b 0 1) n) (l + 1)) (Some (cond (eqb n l) (l + cond b 0 1) n)) None ≡ option_or (cond (nat_lt n l) (Some n) None) (cond b (Some l) None)
-  found-push n l true h = grind (arith, nat_tests)
-  found-push n l false h = grind (arith, nat_tests)
-
-  -- one element more is found where it passes and none before it does
-  pub position-push : (xs : List X) (y : X) → position p (xs ++ y ∷ []) ≡ option_or (position p xs) (cond (p y) (Some (length xs)) None)
-  position-push xs y =
-      ap (λ n. cond (nat_lt (position_or_len p (xs ++ y ∷ [])) n) (Some (position_or_len p (xs ++ y ∷ []))) None) (length_push xs y)
-      ∙ ap (λ k. cond (nat_lt k (length xs + 1)) (Some k) None) (position_or_len_push p xs y) ∙ found-push (position_or_len p xs) (length xs) (p y) (prefix_len-le-length (λ x. not (p x)) xs)
 
 -- nothing is there
 pub none_is : (o : Option ℕ) → is_some o ≡ false → o ≡ None

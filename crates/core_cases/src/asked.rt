@@ -55,8 +55,8 @@ pub fn first_unknown(file: &OpenFile, brokers: &[u32]) -> Option<u32>
     brokers.iter().copied().find(|b| is_unknown(file, *b))
 }
 
-// Whether the broker is among these.
-fn has(brokers: &[u32], broker: u32) -> bool
+/// Whether the broker is among these.
+pub fn has(brokers: &[u32], broker: u32) -> bool
     ensures { result ≡ has brokers.now broker }
 {
     brokers.contains(&broker)

@@ -10,6 +10,7 @@ pub mod Launched
 pub mod Launching
 pub mod Places
 pub mod Rounds
+pub mod Shown
 pub mod Starts
 pub mod Turned
 pub mod Unfinished

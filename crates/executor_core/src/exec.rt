@@ -452,7 +452,8 @@ impl Exec {
     pub fn list_by(&self, part: usize, task: Option<u32>) -> &[u32]
         requires part { part < length self.now.base }
         requires task { task ≡ position (is_on part) self.now.tasks }
-        ensures { result.now ≡ list_now self.now part }
+        ensures value { result.now ≡ list_now self.now part }
+        ensures few { length result.now ≤ 16 }
     {
         match task {
             None => self.base[part].as_slice(),
