@@ -1,3 +1,4 @@
+pub mod Belonging
 pub mod Carries
 pub mod Changed
 pub mod Indexed

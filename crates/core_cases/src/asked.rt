@@ -1,6 +1,7 @@
 // What a request for a plan asks.
 ghost use Rattle.std.specs.Prelude.{◌≡◌, ◌≢◌, ◌<◌, not, None, Some, IfOk, IfErr, OnOk, map, length};
-ghost use Rattle.plan_terms.specs.Cluster.{has, is_known};
+ghost use Rattle.plan_terms.specs.Belongs.{Belongs};
+ghost use Rattle.plan_terms.specs.Cluster.{Lists, has, is_known};
 ghost use Rattle.core_terms.specs.Asked.{asks_demotion, is_dry, state_asked, state_for, broker_asked, is_excluded, part_asked, goals_of, goals_fault, case_of};
 ghost use Rattle.core_terms.specs.Submits.{first_unknown};
 ghost use Rattle.user_tasks.specs.declared.ask.Ask.{Ask};
@@ -149,6 +150,7 @@ fn ask_parts(case: &mut Case, excluded: &HashSet<String>)
 pub fn case_of(alloc: Global, ask: &Ask, present: Case) -> Result<Case, Memory>
     ensures value { IfOk result (λ c. c ≡ case_of ask.now present) }
     ensures one_each { IfOk result (λ c. length c.parts ≡ length present.parts) }
+    ensures belongs { (lists : Lists) → Belongs present lists → IfOk result (λ c. Belongs c lists) }
 {
     let excluded = set_of(alloc, ask.excluded.as_slice())?;
     let mut case = present;

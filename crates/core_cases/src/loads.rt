@@ -1,6 +1,7 @@
 // The loads of a file's cluster: those of the windows, else those that the file gives.
 ghost use Rattle.std.specs.Prelude.{◌≡◌, ◌≤◌, ◌<◌, List, IfOk, IfSome, length};
 ghost use Rattle.std.specs.List.{All};
+ghost use Rattle.plan_terms.specs.Belongs.{Belongs};
 ghost use Rattle.plan_terms.specs.Loads.{IsLoads};
 ghost use Rattle.plan_terms.specs.declared.settings.Sample.{Sample};
 ghost use Rattle.cluster_json.specs.Ranges.{AreRules, IsFile, IsSample};
@@ -121,7 +122,8 @@ pub fn loaded(alloc: Global, file: &OpenFile, windows: &Windows) -> Result<Case,
 #[tactic(auto, unfolding(core_terms::specs::Input::loaded_parts))]
 pub fn loaded_case(alloc: Global, file: &ClusterFile) -> Result<Case, Memory>
     requires { IsFile file.now }
-    ensures { IfOk result (λ c. c ≡ record file.now.case { parts = loaded_parts (file_seen file.now) (accepted file.now.rules file.now.samples.items) }) }
+    ensures value { IfOk result (λ c. c ≡ record file.now.case { parts = loaded_parts (file_seen file.now) (accepted file.now.rules file.now.samples.items) }) }
+    ensures belongs { IfOk result (λ c. Belongs c file.now.lists) }
 {
     let parts = file.case.parts().len() as u32;
     let windows = windows_from(alloc, parts, file.rules, file.samples.as_slice())?;

@@ -1,5 +1,7 @@
 // The present cluster.
 ghost use Rattle.std.specs.Prelude.{◌≡◌, ◌<◌, List, IfOk, length, map};
+ghost use Rattle.plan_terms.specs.Belongs.{Belongs};
+ghost use Rattle.plan_terms.specs.Cluster.{Lists};
 ghost use Rattle.plan_terms.specs.declared.settings.Sample.{Sample};
 ghost use Rattle.metric_windows.specs.StandsFor.{StandsFor};
 ghost use Rattle.core_terms.specs.State.{present, state_now, broker_now};
@@ -56,6 +58,7 @@ pub fn present(
     requires parts { windows.now.parts ≡ length file.now.cluster.parts }
     ensures value { (samples : List Sample) → StandsFor windows.now samples → IfOk result (λ c. c ≡ present file.now exec.now.hosts samples) }
     ensures one_each { IfOk result (λ c. length c.parts ≡ length file.now.cluster.parts) }
+    ensures belongs { (samples : List Sample) → StandsFor windows.now samples → (lists : Lists) → Belongs file.now.cluster lists → IfOk result (λ c. Belongs c lists) }
 {
     let mut case = loaded(alloc, file, windows)?;
     mark_brokers(&mut case, exec);

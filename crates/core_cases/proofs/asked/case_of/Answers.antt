@@ -1,8 +1,9 @@
 use Rattle.std.proofs.Common.{◌∙◌, Bool, length, map, ap}
 use Rattle.std.proofs.lemmas.List.{length-map}
 use Rattle.plan_terms.specs.Cluster.{Cluster}
-use Rattle.core_terms.specs.Asked.{broker_asked, part_asked, case_of}
+use Rattle.core_terms.specs.Asked.{broker_asked, part_asked, state_for, case_of}
 use Rattle.core_cases.specs.Excluded.{HasTopics}
+use Rattle.core_cases.proofs.Belonging.{Belongs-same}
 use Rattle.core_cases.proofs.asked.case_of.Goals as goal
 
 pub returns-clause-value : goal.returns-clause-value
@@ -19,3 +20,8 @@ returns-clause-value c =
 pub returns-clause-one_each : goal.returns-clause-one_each
 unfolding case_of
 returns-clause-one_each c = ap (λ (k : Cluster). length k.parts) (returns-clause-value c) ∙ length-map c.args.present.parts (part_asked c.args.ask.now)
+
+pub returns-clause-belongs : goal.returns-clause-belongs
+unfolding case_of
+returns-clause-belongs c = λ lists belongs.
+    Belongs-same (state_for c.args.ask.now) c.args.present c.set_leads_only.new.self lists (ap (λ (k : Cluster). k.brokers) (returns-clause-value c)) (returns-clause-one_each c) belongs
