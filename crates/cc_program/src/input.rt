@@ -7,8 +7,8 @@ ghost use Rattle.cc_program.specs.Input.{input_of};
 ghost use Rattle.cc_program.specs.Quiet.{refusal_line};
 ghost use Rattle.cc_program.specs.Views.{cluster_lists};
 
-use crate::loads::loaded_case;
-use cluster_json::{Caps, ClusterFile, FileRefusal, read_cluster};
+use cluster_json::{Caps, FileRefusal, read_cluster};
+use core_cases::loaded_case;
 use load_model::{Assign, Case, Memory};
 use std::alloc::Global;
 
@@ -22,7 +22,7 @@ pub struct Loaded {
 }
 
 /// What the bytes of a file give to plan for, or their first fault.
-#[tactic(auto, unfolding(crate::specs::Input::input_of))]
+#[tactic(auto, unfolding(crate::specs::Input::input_of, crate::specs::Input::loaded_cluster))]
 pub fn read_input(alloc: Global, bytes: &[u8]) -> Result<Loaded, FileRefusal>
     ensures means { Gives cluster_lists result (input_of bytes.now) }
     ensures belongs { IfOk result (λ loaded. Belongs loaded.case loaded.lists) }

@@ -9,7 +9,6 @@ ghost use Rattle.cc_program.specs.declared.quiet.End.{End};
 mod answers;
 mod goals;
 mod input;
-mod loads;
 mod quiet;
 mod words;
 

@@ -8,7 +8,9 @@ pub mod Fitting
 pub mod Flying
 pub mod Launched
 pub mod Launching
+pub mod Places
 pub mod Rounds
+pub mod Shown
 pub mod Starts
 pub mod Turned
 pub mod Unfinished

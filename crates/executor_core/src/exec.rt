@@ -1,12 +1,12 @@
 // The executor's state, and its calls.
-ghost use Rattle.std.specs.Prelude.{◌≡◌, ◌↔◌, ◌+◌, ◌<◌, ◌≤◌, ◌^◌, ◌&&◌, not, if◌then◌else◌, length, IsTrue, Ok, Err, None, IfOk, IfErr, OnOk, OnErr, true, false, nat_lt, bytes_eq};
-ghost use Rattle.std.specs.List.{All, list_all, position};
+ghost use Rattle.std.specs.Prelude.{◌≡◌, ◌↔◌, ◌+◌, ◌<◌, ◌≤◌, ◌^◌, ◌&&◌, ℕ, not, if◌then◌else◌, length, get_or, vec_len, IsTrue, Ok, Err, None, IfOk, IfErr, OnOk, OnErr, true, false, nat_lt, bytes_eq};
+ghost use Rattle.std.specs.List.{All, list_all, list_any, position};
 ghost use Rattle.plan_terms.specs.Belongs.{distinct};
 ghost use Rattle.plan_terms.specs.Cluster.{has};
 ghost use Rattle.exec_terms.specs.Machine.{next_work, may_start, task_at, any_unfinished, taken, after_take, after_launch, after_caps, first_unfinished, list_now, lists_now};
 ghost use Rattle.exec_terms.specs.Leases.{test_lease, end_lease, after_copied, copied_reply, after_copy_failed, copy_failed_reply, after_commit, commit_reply, after_cancel, cancel_reply, give_back_reply, held, held_for};
 ghost use Rattle.exec_terms.specs.Stops.{after_stop, stop_reply, after_kill, kill_reply, has_died};
-ghost use Rattle.exec_terms.specs.Words.{is_aborting, is_cancel, union_of, list_shown};
+ghost use Rattle.exec_terms.specs.Words.{is_aborting, is_cancel, is_on, is_replica_task, is_unfinished, union_of, list_shown};
 ghost use Rattle.exec_terms.specs.Runs.{new_state, hosts_of, CanLaunch, IsExecuting};
 ghost use Rattle.exec_terms.specs.Settled.{settled, settled_in, settled_lists};
 ghost use Rattle.exec_terms.specs.Tally.{leases_out, phase_counts};
@@ -433,27 +433,56 @@ impl Exec {
         }
     }
 
+    /// The number of partitions.
+    pub fn parts(&self) -> usize
+        ensures { result ≡ length self.now.base }
+    {
+        self.base.len()
+    }
+
+    /// The place of the task of each partition, where it has one, found in one pass over the tasks.
+    pub fn task_places(&self, alloc: Global) -> Result<Vec<Option<u32>>, Memory>
+        ensures long { IfOk result (λ places. vec_len places ≡ length self.now.base) }
+        ensures each { IfOk result (λ places. (p : ℕ) → p < length self.now.base → get_or places.items p None ≡ position (is_on p) self.now.tasks) }
+    {
+        scan::places_by_part(alloc, self.tasks.as_slice(), self.base.len())
+    }
+
+    /// The list of a partition now, given the place of its task, where it has one.
+    pub fn list_by(&self, part: usize, task: Option<u32>) -> &[u32]
+        requires part { part < length self.now.base }
+        requires task { task ≡ position (is_on part) self.now.tasks }
+        ensures value { result.now ≡ list_now self.now part }
+        ensures few { length result.now ≤ 16 }
+    {
+        match task {
+            None => self.base[part].as_slice(),
+            Some(i) => shown(&self.tasks[i as usize], &self.unions[i as usize]),
+        }
+    }
+
     /// The lists of all partitions now, in order.
     pub fn lists_now(&self, alloc: Global) -> Result<Vec<Replicas>, Memory>
         ensures { IfOk result (λ lists. lists.items ≡ lists_now self.now) }
     {
+        let places = self.task_places(alloc)?;
         let mut lists = Vec::new(alloc);
         for part in 0..self.base.len() {
-            let ids = Vec::from_slice(alloc, self.list_at(part))?;
+            let ids = Vec::from_slice(alloc, self.list_by(part, places[part]))?;
             lists.push(Replicas::new(ids))?;
         }
         Ok(lists)
     }
 
-    // The settled list of the partition at a place.
-    fn settled_at(&self, part: usize) -> &[u32]
-        requires { part < length self.now.base }
+    // The settled list of a partition, given the place of its task, where it has one.
+    fn settled_by(&self, part: usize, task: Option<u32>) -> &[u32]
+        requires part { part < length self.now.base }
+        requires task { task ≡ position (is_on part) self.now.tasks }
         ensures { result.now ≡ settled self.now part }
     {
-        let tasks = self.tasks.as_slice();
-        match scan::first_on(tasks, part) {
+        match task {
             None => self.base[part].as_slice(),
-            Some(i) => settled_of(&tasks[i]),
+            Some(i) => settled_of(&self.tasks[i as usize]),
         }
     }
 
@@ -461,9 +490,10 @@ impl Exec {
     pub fn settled_lists(&self, alloc: Global) -> Result<Vec<Replicas>, Memory>
         ensures { IfOk result (λ lists. lists.items ≡ settled_lists self.now) }
     {
+        let places = self.task_places(alloc)?;
         let mut lists = Vec::new(alloc);
         for part in 0..self.base.len() {
-            let ids = Vec::from_slice(alloc, self.settled_at(part))?;
+            let ids = Vec::from_slice(alloc, self.settled_by(part, places[part]))?;
             lists.push(Replicas::new(ids))?;
         }
         Ok(lists)
@@ -536,6 +566,21 @@ impl Exec {
         ensures { result ≡ (task_at self.now.tasks task).phase }
     {
         self.tasks[task as usize].phase
+    }
+
+    /// A task.
+    pub fn task(&self, task: u32) -> &Task
+        requires { task < length self.now.tasks }
+        ensures { result.now ≡ task_at self.now.tasks task }
+    {
+        &self.tasks[task as usize]
+    }
+
+    /// Whether a task that moves replicas is unfinished.
+    pub fn is_moving_replicas(&self) -> bool
+        ensures { result ≡ list_any (λ t. is_unfinished t.phase && is_replica_task t) self.now.tasks }
+    {
+        scan::any_moving(self.tasks.as_slice())
     }
 
     /// How many tasks the last execution has.

@@ -16,7 +16,7 @@ pub use exec::Exec;
 pub use cap_ledger::Counts;
 pub use exec_terms::{
     Faults, Given, Idle, KillFault, Killed, LaunchFault, LeaseFault, Left, NothingToStop, Phase,
-    PhaseCounts, Stopped, Work, WorkKind,
+    PhaseCounts, Stopped, Task, Work, WorkKind,
 };
 pub use load_model::{Assign, Case};
 pub use plan_terms::{Caps, Memory, Proposal, Replicas};

@@ -1,11 +1,13 @@
 // What the executor reads off the plain lists of its tasks and brokers, from the front.
-ghost use Rattle.std.specs.Prelude.{◌≡◌, ◌&&◌, ◌==◌};
-ghost use Rattle.std.specs.List.{list_any, count_by, position};
-ghost use Rattle.exec_terms.specs.Words.{is_pending, is_in_progress, is_aborting, is_unfinished, is_free, holds, holds_for, is_on, needs};
+ghost use Rattle.std.specs.Prelude.{◌≡◌, ◌<◌, ◌≤◌, ◌&&◌, ◌==◌, ℕ, None, IfOk, get_or, length, vec_len};
+ghost use Rattle.std.specs.List.{All, list_any, count_by, position};
+ghost use Rattle.exec_terms.specs.Words.{is_pending, is_in_progress, is_aborting, is_unfinished, is_free, holds, holds_for, is_on, is_replica_task, needs};
 ghost use Rattle.exec_terms.specs.Machine.{idle, any_unfinished};
 ghost use Rattle.exec_terms.specs.Stops.{is_host, has_died};
 
 use exec_terms::{Host, Idle, Task, WorkKind};
+use plan_terms::Memory;
+use std::alloc::Global;
 
 /// The first task that wants its cancel.
 pub fn first_to_cancel(tasks: &[Task]) -> Option<usize>
@@ -123,6 +125,36 @@ pub fn has_died(hosts: &[Host], broker: u32) -> bool
     ensures { result ≡ has_died hosts.now broker }
 {
     hosts.iter().any(|h| h.id == broker && h.dead)
+}
+
+/// Whether a task that moves replicas has not ended.
+pub fn any_moving(tasks: &[Task]) -> bool
+    ensures { result ≡ list_any (λ t. is_unfinished t.phase && is_replica_task t) tasks.now }
+{
+    tasks
+        .iter()
+        .any(|t| t.phase.is_unfinished() && t.is_replica_task())
+}
+
+/// The place of the task of each partition, found in one pass over the tasks.
+pub fn places_by_part(
+    alloc: Global,
+    tasks: &[Task],
+    parts: usize,
+) -> Result<Vec<Option<u32>>, Memory>
+    requires few { length tasks.now ≤ 10000 }
+    requires known { All (λ t. t.part < parts) tasks.now }
+    ensures long { IfOk result (λ places. vec_len places ≡ parts) }
+    ensures each { IfOk result (λ places. (p : ℕ) → p < parts → get_or places.items p None ≡ position (is_on p) tasks.now) }
+{
+    let mut places = vec![in alloc; None; parts]?;
+    for (place, task) in tasks.iter().enumerate() {
+        let part = task.part as usize;
+        if places[part].is_none() {
+            places[part] = Some(place as u32);
+        }
+    }
+    Ok(places)
 }
 
 /// The task of the partition.

@@ -1,0 +1,7 @@
+use Rattle.std.proofs.Common.{◌≡◌, map, take}
+use Rattle.std.specs.List.{enumerate_from}
+use Rattle.core_terms.specs.Shows.{task_shown}
+use Rattle.core_cases.proofs.shows.tasks_shown.Given as goal
+
+abbrev pub invariant-loop-place : goal.invariant-loop-place
+invariant-loop-place l = l.shown.items ≡ map task_shown (enumerate_from 0 (take l.place l.tasks))

@@ -1,0 +1,54 @@
+-- What brokers carry, as it grows by one place of a list and by one list.
+use Rattle.std.specs.Prelude.{ℕ, ◌+◌, ◌*◌, ◌≤◌, ◌^◌, Bool, ◌==◌, List, slice_index, if◌then◌else◌}
+use Rattle.std.specs.List.{count_by}
+use Rattle.plan_terms.specs.Cluster.{leads}
+use Rattle.plan_terms.specs.Load.{list_load}
+use Rattle.plan_terms.specs.declared.cluster.Broker.{Broker}
+use Rattle.plan_terms.specs.declared.cluster.Part.{Part}
+use Rattle.core_terms.specs.declared.shows.BrokerShown.{BrokerShown}
+
+-- a broker that carries nothing
+abbrev pub idle : Broker → BrokerShown
+idle b = record { broker = b.id; state = b.state; cpu = 0; nw_in = 0; nw_out = 0; disk = 0; potential_nw_out = 0; replicas = 0; leaders = 0 }
+
+-- the load of a resource at the first place of a partition's list, or at another
+abbrev pub place_load : Part → Bool → ℕ → ℕ
+place_load p first r = if first then slice_index p.loads.lead r else slice_index p.loads.follow r
+
+-- one place more of a partition's list, its first or another
+abbrev pub with_place : Part → Bool → BrokerShown → BrokerShown
+with_place p first s = record s {
+  cpu = s.cpu + place_load p first 0;
+  nw_in = s.nw_in + place_load p first 1;
+  nw_out = s.nw_out + place_load p first 2;
+  disk = s.disk + place_load p first 3;
+  potential_nw_out = s.potential_nw_out + slice_index p.loads.lead 2;
+  replicas = s.replicas + 1;
+  leaders = s.leaders + (if first then 1 else 0);
+}
+
+-- the same, where it is the broker's of this id
+abbrev pub with_member : Part → Bool → ℕ → BrokerShown → BrokerShown
+with_member p first id s = if id == s.broker then with_place p first s else s
+
+-- the places of the broker in a partition's list
+abbrev pub with_list : Part → List ℕ → BrokerShown → BrokerShown
+with_list p list s = record s {
+  cpu = s.cpu + list_load (slice_index p.loads.lead 0) (slice_index p.loads.follow 0) s.broker list;
+  nw_in = s.nw_in + list_load (slice_index p.loads.lead 1) (slice_index p.loads.follow 1) s.broker list;
+  nw_out = s.nw_out + list_load (slice_index p.loads.lead 2) (slice_index p.loads.follow 2) s.broker list;
+  disk = s.disk + list_load (slice_index p.loads.lead 3) (slice_index p.loads.follow 3) s.broker list;
+  potential_nw_out = s.potential_nw_out + slice_index p.loads.lead 2 * count_by (λ x. x == s.broker) list;
+  replicas = s.replicas + count_by (λ x. x == s.broker) list;
+  leaders = s.leaders + (if leads list s.broker then 1 else 0);
+}
+
+-- no more than n places can carry
+pub record IsWithin (n : ℕ) (s : BrokerShown) : Type 0 where
+  pub cpu : s.cpu ≤ n * 2 ^ 64
+  pub nw_in : s.nw_in ≤ n * 2 ^ 64
+  pub nw_out : s.nw_out ≤ n * 2 ^ 64
+  pub disk : s.disk ≤ n * 2 ^ 64
+  pub potential : s.potential_nw_out ≤ n * 2 ^ 64
+  pub replicas : s.replicas ≤ n
+  pub leaders : s.leaders ≤ n

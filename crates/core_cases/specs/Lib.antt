@@ -1,0 +1,4 @@
+pub mod Carried
+pub mod Changes
+pub mod Excluded
+pub mod Index
