@@ -1,0 +1,9 @@
+pub mod Counted
+pub mod Firsts
+pub mod Goals
+pub mod Held
+pub mod Ids
+pub mod Known
+pub mod Opened
+pub mod Stepped
+pub mod Working

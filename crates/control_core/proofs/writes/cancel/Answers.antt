@@ -1,0 +1,17 @@
+use Rattle.std.proofs.Common.{◌≡◌, true}
+use Rattle.exec_terms.specs.Machine.{any_unfinished}
+use Rattle.exec_terms.specs.declared.work.WorkKind.TheVariants.{Cancel as ForCancel}
+use Rattle.control_core.proofs.Working.{anyhow, working}
+use Rattle.control_core.proofs.writes.cancel.Goals as goal
+
+pub proposal-proposal-requires : goal.proposal-proposal-requires
+proposal-proposal-requires g c = (working c.args.exec.now c.args.lease ForCancel c.in-Ok.task c.state_is_valid.ensures c.in-Ok.ensures).there
+
+pub cancel-requires-clause-installed : goal.cancel-requires-clause-installed
+cancel-requires-clause-installed g c = rw (c.proposal-proposal.ensures, c.requires.installed) (working c.args.exec.now c.args.lease ForCancel c.in-Ok.task c.state_is_valid.ensures c.in-Ok.ensures).part
+
+pub cancel-requires-clause-few : goal.cancel-requires-clause-few
+cancel-requires-clause-few g c = rw (c.as_slice.ensures, c.proposal-proposal.ensures) (working c.args.exec.now c.args.lease ForCancel c.in-Ok.task c.state_is_valid.ensures c.in-Ok.ensures).before
+
+pub returns-clause-busy : goal.returns-clause-busy
+returns-clause-busy g c = anyhow (any_unfinished c.args.exec.now.tasks ≡ true) c.cancel.result (working c.args.exec.now c.args.lease ForCancel c.in-Ok.task c.state_is_valid.ensures c.in-Ok.ensures).busy

@@ -1,0 +1,152 @@
+// The book.
+ghost use Rattle.std.specs.Prelude.{◌≡◌, ◌++◌, ◌∷◌, ◌≤◌, [], true, IfOk, IfErr, IfSome, MatchResult, OnOk, OnErr};
+ghost use Rattle.std.specs.List.{list_any};
+ghost use Rattle.cc_base.specs.Outside.{HasRisen};
+ghost use Rattle.cluster_gate.specs.Lists.{installed};
+ghost use Rattle.cluster_json.specs.Ranges.{IsFile};
+ghost use Rattle.cluster_json.specs.Views.{file_seen};
+ghost use Rattle.core_terms.specs.Step.{reply_of};
+ghost use Rattle.core_terms.specs.History.{AreLegal};
+ghost use Rattle.core_laws.specs.Events.{is_close};
+ghost use Rattle.exec_terms.specs.Machine.{lists_now};
+
+use crate::journal::{enter, is_legal};
+use crate::machine::Machine;
+use cluster_gate::{Admin, InstallFault};
+use cluster_json::ClusterFile;
+use core_terms::{Event, Reply, StepFault};
+use std::alloc::Global;
+use std::marker::Model;
+
+/// A service's book: its state, the journal of the events that it took, and the admin that it writes lists to.
+pub struct Book<A: Admin> {
+    alloc: Global,
+    machine: Machine,
+    journal: Vec<Event>,
+    failures: u64,
+    late: u64,
+    settled: bool,
+    admin: A,
+}
+
+impl<A: Admin> Model for Book<A> {
+    ghost use Rattle.std.specs.Prelude.{vec_capacity};
+    ghost use Rattle.control_core.specs.Books.{BookView, IsBook};
+
+    ghost Value = { BookView A };
+
+    ghost view = { λ b. record { file = b.machine.file; journal = b.journal.items; failures = b.failures; late = b.late; settled = b.settled; admin = b.admin } };
+
+    ghost invariant = { λ b. IsBook (A.told b.admin) (A.parts b.admin) (A.faults b.admin) b.machine b.journal.items (vec_capacity b.journal) b.failures b.late };
+}
+
+impl<A: Admin> Book<A> {
+    ghost use Rattle.control_core.specs.Books.{IsStepFault, opened, state_of};
+
+    /// Opens the book of a cluster file and installs the file's lists.
+    ///
+    /// # Errors
+    ///
+    /// `InstallFault::Failed` where the admin's call fails, `InstallFault::Memory` out of memory. The admin is handed back, with
+    /// the lists that it had.
+    pub fn begin(
+        alloc: Global,
+        file: ClusterFile,
+        mut admin: A,
+    ) -> Result<Book<A>, (InstallFault, A)>
+        requires { IsFile file }
+        ensures opened { IfOk result (λ b. b ≡ opened (file_seen file) b.admin) }
+        ensures told { IfOk result (λ b. A.told b.admin ≡ installed (A.told admin) file.lists) }
+        ensures unchanged { IfErr result (λ e. (A.told e.1 ≡ A.told admin) × (A.parts e.1 ≡ A.parts admin)) }
+        ensures cause { IfErr result (λ e. e.0 ≡ InstallFault.Failed → HasRisen (A.faults admin) (A.faults e.1)) }
+        ensures later { MatchResult result (λ b. A.faults admin ≤ A.faults b.admin) (λ e. A.faults admin ≤ A.faults e.1) }
+    {
+        let Ok(machine) = Machine::open(alloc, file) else {
+            return Err((InstallFault::Memory, admin));
+        };
+        let mut journal = Vec::new(alloc);
+        if journal.reserve(1).is_err() {
+            return Err((InstallFault::Memory, admin));
+        }
+        match admin.install(alloc, machine.file.lists()) {
+            Ok(()) => Ok(Book {
+                alloc,
+                machine,
+                journal,
+                failures: 0,
+                late: 0,
+                settled: false,
+                admin,
+            }),
+            Err(fault) => Err((fault, admin)),
+        }
+    }
+
+    /// Takes an event: answers it, and adds it to the journal. An error leaves the journal and the admin's lists as they were, and
+    /// hands the event back. Only Take, Commit and Cancel call the admin, and only while a task is unfinished. The events that end a
+    /// lease or a ticket which is out, and the first Close, take no memory.
+    pub fn step(&mut self, event: Event) -> Result<Reply, (StepFault, Event)>
+        ensures file { self.new.file ≡ self.old.file }
+        ensures entry { OnOk result (self.new.journal ≡ self.old.journal ++ event ∷ []) }
+        ensures reply { IfOk result (λ r. r ≡ reply_of self.old.file (state_of self.old) event) }
+        ensures unchanged { OnErr result (self.new.journal ≡ self.old.journal) }
+        ensures handed_back { IfErr result (λ e. e.1 ≡ event) }
+        ensures told { OnErr result (A.told self.new.admin ≡ A.told self.old.admin) }
+        ensures fault { IfErr result (λ e. IsStepFault A.faults self.old event self.new e.0) }
+        ensures counted { OnOk result ((self.new.failures ≡ self.old.failures) × (self.new.late ≡ self.old.late)) }
+        ensures settled { self.new.settled ≡ self.old.settled }
+        ensures later { A.faults self.old.admin ≤ A.faults self.new.admin }
+    {
+        is_legal(&event);
+        if self.machine.make_room(&mut self.journal, &event).is_err() {
+            return Err((StepFault::Memory, event));
+        }
+        if self.machine.write(&mut self.admin, &event).is_err() {
+            self.failures = self.failures.saturating_add(1);
+            if self.settled {
+                self.late = self.late.saturating_add(1);
+            }
+            return Err((StepFault::AdminFault(self.failures), event));
+        }
+        match self.machine.serve(self.alloc, &event) {
+            Ok(reply) => {
+                enter(&mut self.journal, event);
+                Ok(reply)
+            }
+            Err(_) => Err((StepFault::Memory, event)),
+        }
+    }
+
+    /// The events that the book took, in order.
+    pub fn journal(&self) -> &[Event]
+        ensures value { result.now ≡ self.now.journal }
+        ensures legal { AreLegal self.now.journal }
+        ensures lists { IfSome (A.told self.now.admin) (λ lists. lists ≡ lists_now (state_of self.now).desk.exec) }
+    {
+        self.journal.as_slice()
+    }
+
+    /// How many faults of the admin the book answered, at most as many as the admin had.
+    pub fn failures(&self) -> u64
+        ensures value { result ≡ self.now.failures }
+        ensures few { result ≤ A.faults self.now.admin }
+    {
+        let _few = &self.late;
+        self.failures
+    }
+
+    /// Marks the book, in whose journal Close stands: from here on the faults of the admin are late.
+    pub fn settle(&mut self)
+        requires { list_any is_close self.old.journal ≡ true }
+        ensures { self.new ≡ record self.old { settled = true } }
+    {
+        self.settled = true;
+    }
+
+    /// The admin.
+    pub fn admin(&self) -> &A
+        ensures { result.now ≡ self.now.admin }
+    {
+        &self.admin
+    }
+}

@@ -1,0 +1,107 @@
+// All of the core's state but the samples.
+ghost use Rattle.std.specs.Prelude.{◌≡◌, ◌<◌, ◌&&◌, [], false, length, not, if◌then◌else◌};
+ghost use Rattle.std.specs.List.{list_all, position};
+ghost use Rattle.exec_terms.specs.Words.{is_completed};
+ghost use Rattle.exec_terms.specs.Machine.{any_unfinished};
+ghost use Rattle.core_terms.specs.Jobs.{is_in_execution, with_status};
+ghost use Rattle.core_terms.specs.Works.{closed, execution_ended};
+
+use crate::places::first_in_execution;
+use core_terms::{Job, Reply};
+use executor_core::Exec;
+use std::alloc::Global;
+use std::marker::Model;
+use user_tasks::{Status, TaskTable};
+
+/// The executor, the user tasks, the job of each, how many tickets were given, and whether Close was asked.
+#[derive(Drop)]
+pub struct Desk {
+    pub(crate) exec: Exec,
+    pub(crate) tasks: TaskTable,
+    pub(crate) jobs: Vec<Job>,
+    pub(crate) tickets: u64,
+    pub(crate) closing: bool,
+}
+
+impl Model for Desk {
+    ghost use Rattle.std.specs.Prelude.{◌≡◌, length};
+    ghost use Rattle.core_terms.specs.State as state;
+
+    ghost Value = { state.Desk };
+
+    ghost view = { λ d. record { exec = d.exec; tasks = d.tasks; jobs = d.jobs.items; tickets = d.tickets; closing = d.closing } };
+
+    ghost invariant = { λ d. length d.jobs.items ≡ length d.tasks };
+}
+
+impl Desk {
+    /// The desk of an executor, without user tasks.
+    pub fn new(alloc: Global, exec: Exec) -> Desk
+        ensures { result ≡ record { exec = exec; tasks = []; jobs = []; tickets = 0; closing = false } }
+    {
+        Desk {
+            exec,
+            tasks: TaskTable::new(alloc),
+            jobs: Vec::new(alloc),
+            tickets: 0,
+            closing: false,
+        }
+    }
+
+    // Sets how far the user task at a place is.
+    pub(crate) fn set_status(&mut self, place: usize, status: Status)
+        requires { place < length self.old.tasks }
+        ensures { self.new ≡ with_status self.old place status }
+    {
+        let _few = self.tasks.tasks();
+        self.tasks.set(place as u64 + 1, status);
+    }
+
+    // Whether each task of the execution is completed.
+    #[tactic(auto, using(crate::proofs::Counted::all_counted))]
+    fn all_completed(&self) -> bool
+        ensures { result ≡ list_all (λ t. is_completed t.phase) self.now.exec.tasks }
+    {
+        self.exec.phase_counts().completed == self.exec.tasks()
+    }
+
+    // The user task at a place ends with its execution.
+    fn end_execution(&mut self, place: usize)
+        requires { place < length self.old.tasks }
+        ensures { self.new ≡ execution_ended self.old (Some place) }
+    {
+        if self.all_completed() {
+            self.set_status(place, Status::Completed);
+        } else {
+            let counts = self.exec.phase_counts();
+            let job = &mut self.jobs[place];
+            job.aborted = counts.aborted;
+            job.dead = counts.dead;
+            self.set_status(place, Status::CompletedWithError);
+        }
+    }
+
+    // After the executor has moved on: where its last unfinished task has ended, so has the user task in execution.
+    pub(crate) fn move_on(&mut self, was_executing: bool)
+        ensures { self.new ≡ (if was_executing && not (any_unfinished self.old.exec.tasks)
+            then execution_ended self.old (position (λ t. is_in_execution t.status) self.old.tasks)
+            else self.old) }
+    {
+        if !was_executing || self.exec.is_executing() {
+            return;
+        }
+        match first_in_execution(self.tasks.tasks()) {
+            None => {}
+            Some(place) => self.end_execution(place),
+        }
+    }
+
+    /// No more requests are taken.
+    pub fn close(&mut self) -> Reply
+        ensures state { self.new ≡ closed self.old }
+        ensures reply { result ≡ Reply.Closed }
+    {
+        self.closing = true;
+        Reply::Closed
+    }
+}

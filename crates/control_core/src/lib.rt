@@ -1,0 +1,19 @@
+//! The core of the service: one book that takes events in order, answers each, and keeps the journal of them.
+#![tactic(auto)]
+
+mod book;
+mod desk;
+mod journal;
+mod machine;
+mod movers;
+mod places;
+mod planners;
+mod room;
+mod serve;
+mod shown;
+mod stops;
+mod submits;
+mod writes;
+
+pub use book::Book;
+pub use core_terms::StepFault;

@@ -1,0 +1,74 @@
+// Room in the journal.
+ghost use Rattle.std.specs.Prelude.{◌≡◌, ◌+◌, ◌≤◌, ◌^◌, is_some};
+ghost use Rattle.std.specs.List.{count_by, list_any};
+ghost use Rattle.exec_terms.specs.Words.{holds, holds_for};
+ghost use Rattle.core_terms.specs.History.{is_sure, kept_for};
+ghost use Rattle.core_terms.specs.Plans.{has_ticket};
+
+use crate::desk::Desk;
+use crate::movers::is_receipt_of;
+use crate::places::has_ticket;
+use core_terms::{Event, Job};
+use exec_terms::{LeaseFault, WorkKind};
+use executor_core::Exec;
+
+// How many jobs have a ticket.
+fn tickets_out(jobs: &[Job]) -> usize
+    ensures { result ≡ count_by (λ j. is_some j.ticket) jobs.now }
+{
+    jobs.iter().filter(|j| j.ticket.is_some()).count()
+}
+
+// Whether some job has the ticket.
+fn is_ticket_out(jobs: &[Job], ticket: u64) -> bool
+    ensures { result ≡ list_any (has_ticket ticket) jobs.now }
+{
+    jobs.iter().any(|j| has_ticket(j, ticket))
+}
+
+// Whether a task holds the lease for a kind of work.
+#[tactic(auto, using(crate::proofs::Held::held_stale, crate::proofs::Held::held_ok, crate::proofs::Held::held_asked))]
+fn is_held_for(exec: &Exec, lease: u64, kind: WorkKind) -> bool
+    ensures { result ≡ list_any (holds_for lease kind) exec.now.tasks }
+{
+    match exec.test_lease(lease, kind) {
+        Ok(_) | Err(LeaseFault::AbortAsked) => true,
+        Err(LeaseFault::Stale(_)) => false,
+    }
+}
+
+// Whether a task holds the lease.
+#[tactic(auto, using(crate::proofs::Held::held_there))]
+fn is_held(exec: &Exec, lease: u64) -> bool
+    ensures { result ≡ list_any (holds lease) exec.now.tasks }
+{
+    exec.held(lease).is_some()
+}
+
+impl Desk {
+    /// For how many entries the journal keeps room.
+    pub fn kept_for(&self) -> usize
+        ensures value { result ≡ kept_for self.now }
+        ensures few { result ≤ 2 ^ 63 + 2 ^ 33 }
+    {
+        let _few = self.tasks.tasks();
+        let close = if self.closing { 0 } else { 1 };
+        self.exec.leases_out() as usize + tickets_out(&self.jobs) + close
+    }
+
+    /// Whether an event ends a lease or a ticket which is out, or is the first Close.
+    pub fn is_sure(&self, event: &Event) -> bool
+        ensures { result ≡ is_sure self.now event.now }
+    {
+        match event {
+            Event::PlanBack(ticket) => is_ticket_out(&self.jobs, *ticket),
+            Event::Copied(receipt) => is_receipt_of(receipt, self.exec.held(receipt.lease())),
+            Event::CopyFailed(lease) => is_held_for(&self.exec, *lease, WorkKind::Copy),
+            Event::Commit(lease) => is_held_for(&self.exec, *lease, WorkKind::Commit),
+            Event::Cancel(lease) => is_held_for(&self.exec, *lease, WorkKind::Cancel),
+            Event::GiveBack(lease) => is_held(&self.exec, *lease),
+            Event::Close => !self.closing,
+            _ => false,
+        }
+    }
+}
