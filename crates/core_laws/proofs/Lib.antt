@@ -25,3 +25,4 @@ pub mod Given
 pub mod Follows
 pub mod Room
 pub mod Problems
+pub mod Reported

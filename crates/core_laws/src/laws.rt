@@ -1,6 +1,7 @@
 // Laws of the core, each the contract of a function that does nothing.
 ghost use Rattle.core_laws.specs.Books.{AdminFollows, EntriesGiveOneEach, ProblemsBelong, RoomIsKept};
 ghost use Rattle.core_laws.specs.Events.{ClosingWasAsked, EndedWorkIsLess, EventsMoveExecutor, ExecutingIsExact, HistoriesKeepCaps, HistoriesShowLists, OnlyPlansRaiseWork, OnlyRequestsMeetExecution, OthersRaiseNone, PlansCanBeLaunched, RefusalsKeepState, StartsKeepCapsInForce, WorkIsThere};
+ghost use Rattle.core_laws.specs.Reported.{CopiesAreReported};
 ghost use Rattle.core_laws.specs.Laws.{EachEventKeeps, EventsKeepTasks, EventsKeepTickets, EventsKeepValid, HistoriesAreSound, MovesKeepTasks, OpeningHasTasks, OpeningIsSound, PlansMeetNoExecution, SettledListsBelong};
 
 /// What holds of every legal history from the opening of a cluster file, after each event: the executor is valid, its brokers are
@@ -9,8 +10,9 @@ ghost use Rattle.core_laws.specs.Laws.{EachEventKeeps, EventsKeepTasks, EventsKe
 /// is out for one job, which is active; and the goals of an active job begin with evacuation.
 ///
 /// Each legal event keeps that from any state of which it holds. The list of a partition is the old one, the new one or, while its
-/// task is in flight, both; requests end only after a
-/// Close; and where no event lowered a cap, the caps in force are kept.
+/// task is in flight, both; a task
+/// that is completed had each of its copies reported, in their order; requests end only after a Close; and where no event lowered a
+/// cap, the caps in force are kept.
 pub fn every_history()
     ensures opening { OpeningIsSound }
     ensures keeps { EachEventKeeps }
@@ -25,6 +27,7 @@ pub fn every_history()
     ensures lists { HistoriesShowLists }
     ensures caps { HistoriesKeepCaps }
     ensures closing { ClosingWasAsked }
+    ensures copies { CopiesAreReported }
 {}
 
 /// What one event does, in any such state: a plan that is to be carried out can be launched; nothing else launches, and each event

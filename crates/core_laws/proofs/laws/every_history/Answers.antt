@@ -7,6 +7,7 @@ use Rattle.core_laws.proofs.Settled.{settled_belongs}
 use Rattle.core_laws.proofs.Sound.{each_event_keeps_sound}
 use Rattle.core_laws.proofs.Histories.{opening_is_sound, histories_are_sound, histories_keep_caps, histories_show_lists}
 use Rattle.core_laws.proofs.Closing.{closing_was_asked}
+use Rattle.core_laws.proofs.Reported.{copies_are_reported}
 use Rattle.core_laws.proofs.laws.every_history.Goals as goal
 
 pub returns : goal.returns
@@ -23,5 +24,6 @@ returns c = record {
   lists = histories_show_lists;
   caps = histories_keep_caps;
   closing = closing_was_asked;
+  copies = copies_are_reported;
   histories = histories_are_sound;
 }
