@@ -1,18 +1,19 @@
 -- Groups of tasks: what a full cap says of one, and what a task that is put in or ends does to them.
-use Rattle.std.proofs.Common.{◌≡◌, ◌∙◌, ℕ, ◌+◌, ◌-◌, ◌<◌, ◌≤◌, Bool, true, false, cond, not, ◌&&◌, ◌||◌, List, [], ◌∷◌, length, get_or, set, refl, sym, ap, arith, inl, inr, Option, Some, None, nat_eq, nat_lt, zero-add}
+use Rattle.std.proofs.Common.{◌≡◌, ◌∙◌, ℕ, ◌+◌, ◌-◌, ◌<◌, ◌≤◌, Bool, true, false, cond, not, ◌&&◌, ◌||◌, List, [], ◌∷◌, length, get_or, set, refl, sym, ap, arith, inl, inr, Option, Some, None, nat_eq, nat_lt, zero-add, ◌++◌}
 use Rattle.std.specs.Prelude.{find}
 use Rattle.std.specs.List.{list_any, list_all, filter, position, count_by}
 use Rattle.std.proofs.lemmas.Bool.{cases_Bool, cases_eq, cases_lt, and_parts, or_left, or_right, or_from, false≢true}
 use Rattle.std.proofs.lemmas.Bool.Decides.{nat_tests}
-use Rattle.std.proofs.lemmas.List.{get_or-set_same, get_or-set_other, length-set, length_push, get_or_append_left, get_or_read}
+use Rattle.std.proofs.lemmas.List.{get_or-set_same, get_or-set_other, length-set, length_push, get_or_append_left, get_or_past, get_or_read}
 use Rattle.std.proofs.lemmas.List.Sums.{position_or_len_is, sum_by-cons, sum_by-set}
 use Rattle.std.proofs.Math.Seq.{get_or-append_seam}
 use Rattle.plan_terms.specs.Cluster.{has}
 use Rattle.plan_terms.specs.declared.settings.Caps.{Caps}
 use Rattle.cap_ledger.specs.Ledger.{Ledger, adding_of, removing_of, differ, fits_in}
+use Rattle.task_planner.specs.declared.group.Key.{Key}
 use Rattle.task_planner.specs.declared.slot.Slot.{Slot}
 use Rattle.task_planner.specs.Queue.{ended, fits_slot, moves, no_slot, slot_at}
-use Rattle.task_planner.specs.Groups.{AreGroups, AreGroupsTo, Files, Filing, IsFiled, IsGroup, IsListed, first_without, group_at, is_open, key_by, key_of, no_group}
+use Rattle.task_planner.specs.Groups.{AreApart, AreGroups, AreGroupsTo, Files, Filing, IsFiled, IsGroup, IsListed, first_without, group_at, is_open, key_by, key_of, no_group}
 
 -- the first member that passes is one of those that pass
 record IsFound (p : ℕ → Bool) (xs : List ℕ) (b : ℕ) : Type 0 where
@@ -144,6 +145,7 @@ module _ (slots : List Slot) (i : ℕ) (l : i < length slots) where
     pub AreGroups-ended : (left : ℕ) → left + cond (moves (slot_at slots i)) 1 0 ≡ movers → AreGroups (set slots i (ended (slot_at slots i))) groups left
     AreGroups-ended left e = record {
       few = rw length-set h.few;
+      apart = h.apart;
       each = λ g. IsGroup-ended (group_at groups g) (h.each g);
       filed = λ t m w. h.filed t (rw length-set at m) (waited t w);
       movers_are =
@@ -156,7 +158,16 @@ pub AreGroups-advanced : (slots : List Slot) (groups : List Filing) (movers plac
     → f.key ≡ (group_at groups place).key → f.tasks ≡ (group_at groups place).tasks
     → ((i : ℕ) → (slot_at slots i).waits ≡ true → IsListed (group_at groups place) i → IsListed f i)
     → AreGroups slots (set groups place f) movers
-AreGroups-advanced slots groups movers place f l h key tasks kept = record { few = h.few; each = each; filed = filed; movers_are = h.movers_are } where
+AreGroups-advanced slots groups movers place f l h key tasks kept = record { few = h.few; each = each; filed = filed; apart = apart; movers_are = h.movers_are } where
+  same : (g : ℕ) → (group_at (set groups place f) g).key ≡ (group_at groups g).key
+  same g = elim (cases_eq g place) as (λ _. (group_at (set groups place f) g).key ≡ (group_at groups g).key) [
+    | inl e ↦ rw (e, get_or-set_same groups place f no_group l) key
+    | inr ne ↦ ap (λ (x : Filing). x.key) (get_or-set_other groups place g f no_group (λ e. ne e))
+  ]
+
+  apart : AreApart (set groups place f)
+  apart g k m n e = h.apart g k m (rw length-set at n) (sym (same g) ∙ e ∙ same k)
+
   each : (g : ℕ) → IsGroup slots (group_at (set groups place f) g)
   each g = elim (cases_eq g place) as (λ _. IsGroup slots (group_at (set groups place f) g)) [
     | inl e ↦ rw (e, get_or-set_same groups place f no_group l) (record {
@@ -175,10 +186,10 @@ AreGroups-advanced slots groups movers place f l h key tasks kept = record { few
 
 -- the groups of no task, and of one task more
 pub AreGroupsTo-none : (slots : List Slot) → AreGroupsTo slots 0 []
-AreGroupsTo-none slots = record { each = λ g. IsGroup-none slots; fresh = λ g. refl; below = λ g a l. absurd (omega arith); filed = λ i l. absurd (omega arith) }
+AreGroupsTo-none slots = record { each = λ g. IsGroup-none slots; apart = λ g h l m e. absurd (omega arith); fresh = λ g. refl; below = λ g a l. absurd (omega arith); filed = λ i l. absurd (omega arith) }
 
 pub AreGroupsTo-more : (slots : List Slot) (n : ℕ) (groups new : List Filing) → n < length slots → AreGroupsTo slots n groups → Files (key_of (slot_at slots n)) n groups new → AreGroupsTo slots (n + 1) new
-AreGroupsTo-more slots n groups new l h f = record { each = each; fresh = fresh; below = below; filed = filed } where
+AreGroupsTo-more slots n groups new l h f = record { each = each; apart = f.apart h.apart; fresh = fresh; below = below; filed = filed } where
   old : List ℕ
   old = (group_at groups f.place).tasks
 
@@ -270,3 +281,66 @@ AreGroups-without slots i x y groups movers n l read is one h =
     let end : y ≡ ended (slot_at slots i) = is ∙ ap ended slot in
     let count : n ≡ cond (moves (slot_at slots i)) 1 0 = one ∙ ap (λ s. cond (moves s) 1 0) slot in
     rw end (AreGroups-ended slots i l groups movers h (movers - n) (omega (arith, count, h.movers_are, moves-counted slots i l)))
+
+-- one task more in its group, or in a new one
+pub Files-known : (key : Key) (task place : ℕ) (groups : List Filing) (x y : Filing) → place < length groups → x ≡ get_or groups place x → (group_at groups place).key ≡ key
+    → y ≡ record x { tasks = x.tasks ++ task ∷ [] } → Files key task groups (set groups place y)
+Files-known key task place groups x y l read keyed is =
+    let here : x ≡ group_at groups place = get_or_read groups place x l read no_group in
+    let now : group_at (set groups place y) place ≡ y = get_or-set_same groups place y no_group l in
+    let same : y.key ≡ (group_at groups place).key = ap (λ (f : Filing). f.key) is ∙ ap (λ (f : Filing). f.key) here in
+    record {
+      place = place;
+      known = rw length-set l;
+      kept = rw length-set (omega arith);
+      key_is = ap (λ (f : Filing). f.key) now ∙ same ∙ keyed;
+      tasks_are = ap (λ (f : Filing). f.tasks) now ∙ ap (λ (f : Filing). f.tasks) is ∙ ap (λ (f : Filing). f.tasks ++ task ∷ []) here;
+      head_is = ap (λ (f : Filing). f.head) now ∙ ap (λ (f : Filing). f.head) is ∙ ap (λ (f : Filing). f.head) here;
+      same_key = λ _. keyed;
+      others = λ g ne. get_or-set_other groups place g y no_group (λ e. ne e);
+      apart = λ h g k m n e. h g k m (rw length-set at n) (sym (stays g) ∙ e ∙ stays k);
+    } where
+      stays : (g : ℕ) → (group_at (set groups place y) g).key ≡ (group_at groups g).key
+      stays g = elim (cases_eq g place) as (λ _. (group_at (set groups place y) g).key ≡ (group_at groups g).key) [
+        | inl e ↦ rw (e, get_or-set_same groups place y no_group l)
+            (ap (λ (f : Filing). f.key) is ∙ ap (λ (f : Filing). f.key) (get_or_read groups place x l read no_group))
+        | inr ne ↦ ap (λ (x : Filing). x.key) (get_or-set_other groups place g y no_group (λ e. ne e))
+      ]
+
+pub Files-new : (key : Key) (task : ℕ) (groups : List Filing) (y : Filing) → ((g : ℕ) → g < length groups → (group_at groups g).key ≡ key → ⊥)
+    → y ≡ record { key = key; tasks = task ∷ []; head = 0 } → Files key task groups (groups ++ y ∷ [])
+Files-new key task groups y none is = record {
+  place = length groups;
+  known = omega (arith, length_push groups y);
+  kept = omega (arith, length_push groups y);
+  key_is = ap (λ (f : Filing). f.key) last ∙ ap (λ (f : Filing). f.key) is;
+  tasks_are = ap (λ (f : Filing). f.tasks) last ∙ ap (λ (f : Filing). f.tasks) is ∙ ap (λ (f : Filing). f.tasks ++ task ∷ []) (sym past);
+  head_is = ap (λ (f : Filing). f.head) last ∙ ap (λ (f : Filing). f.head) is ∙ ap (λ (f : Filing). f.head) (sym past);
+  same_key = λ some. absurd (omega (arith, some, ap (λ (f : Filing). length f.tasks) past));
+  others = others;
+  apart = apart;
+} where
+  last : group_at (groups ++ y ∷ []) (length groups) ≡ y
+  last = get_or-append_seam groups y [] no_group
+
+  past : group_at groups (length groups) ≡ no_group
+  past = get_or_past groups (length groups) no_group (omega arith)
+
+  before : (g : ℕ) → g < length groups → group_at (groups ++ y ∷ []) g ≡ group_at groups g
+  before g l = get_or_append_left groups (y ∷ []) no_group g l
+
+  others : (g : ℕ) → (g ≡ length groups → ⊥) → group_at (groups ++ y ∷ []) g ≡ group_at groups g
+  others g ne = elim (cases_lt g (length groups)) as (λ _. group_at (groups ++ y ∷ []) g ≡ group_at groups g) [
+    | inl l ↦ before g l
+    | inr l ↦
+        let far : length groups < g = elim (cases_lt (length groups) g) as (λ _. length groups < g) [ inl m ↦ m | inr m ↦ absurd (ne (omega arith)) ] in
+        get_or_past (groups ++ y ∷ []) g no_group (omega (arith, length_push groups y)) ∙ sym (get_or_past groups g no_group (omega arith))
+  ]
+
+  apart : AreApart groups → AreApart (groups ++ y ∷ [])
+  apart h g k m n e = elim (cases_lt k (length groups)) as (λ _. ⊥) [
+    | inl l ↦ h g k m l (ap (λ (f : Filing). f.key) (sym (before g (omega arith))) ∙ e ∙ ap (λ (f : Filing). f.key) (before k l))
+    | inr l ↦
+        let end : k ≡ length groups = omega (arith, length_push groups y) in
+        none g (omega arith) (ap (λ (f : Filing). f.key) (sym (before g (omega arith))) ∙ e ∙ ap (λ (x : ℕ). (group_at (groups ++ y ∷ []) x).key) end ∙ ap (λ (f : Filing). f.key) last ∙ ap (λ (f : Filing). f.key) is)
+  ]

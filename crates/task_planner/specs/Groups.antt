@@ -70,9 +70,14 @@ pub record IsGroup (slots : List Slot) (f : Filing) : Type 0 where
   pub known : (a : ℕ) → a < length f.tasks → get_or f.tasks a 0 < length slots
   pub keyed : (a : ℕ) → a < length f.tasks → key_of (slot_at slots (get_or f.tasks a 0)) ≡ f.key
 
+-- no two groups have one key
+abbrev pub AreApart : List Filing → Type 0
+AreApart groups = (g h : ℕ) → g < h → h < length groups → (group_at groups g).key ≡ (group_at groups h).key → ⊥
+
 -- the groups of the first n tasks
 pub record AreGroupsTo (slots : List Slot) (n : ℕ) (groups : List Filing) : Type 0 where
   pub each : (g : ℕ) → IsGroup slots (group_at groups g)
+  pub apart : AreApart groups
   pub fresh : (g : ℕ) → (group_at groups g).head ≡ 0
   pub below : (g a : ℕ) → a < length (group_at groups g).tasks → get_or (group_at groups g).tasks a 0 < n
   pub filed : (i : ℕ) → i < n → IsFiled groups i
@@ -87,10 +92,12 @@ pub record Files (key : Key) (task : ℕ) (old new : List Filing) : Type 0 where
   pub head_is : (group_at new place).head ≡ (group_at old place).head
   pub same_key : 0 < length (group_at old place).tasks → (group_at old place).key ≡ key
   pub others : (g : ℕ) → (g ≡ place → ⊥) → group_at new g ≡ group_at old g
+  pub apart : AreApart old → AreApart new
 
 -- the groups of the tasks: each that waits is in one of them; and how many of them move replicas
 pub record AreGroups (slots : List Slot) (groups : List Filing) (movers : ℕ) : Type 0 where
   pub few : length slots < 4294967296
   pub each : (g : ℕ) → IsGroup slots (group_at groups g)
   pub filed : (i : ℕ) → i < length slots → (slot_at slots i).waits ≡ true → IsFiled groups i
+  pub apart : AreApart groups
   pub movers_are : movers ≡ count_by moves slots

@@ -1,5 +1,5 @@
 // The queue of tasks.
-ghost use Rattle.std.specs.Prelude.{◌≡◌, ◌<◌, ◌≤◌, ◌^◌, ℕ, true, IsTrue, IfOk, IfSome, OnOk, length, map, slice_set, if◌then◌else◌};
+ghost use Rattle.std.specs.Prelude.{◌≡◌, ◌<◌, ◌≤◌, ◌^◌, ℕ, true, IsTrue, None, IfOk, IfSome, OnOk, length, map, slice_set, if◌then◌else◌};
 ghost use Rattle.std.specs.List.{All, count_by};
 ghost use Rattle.plan_terms.specs.Belongs.{distinct};
 ghost use Rattle.task_planner.specs.Groups.{AreGroupsTo, Files, IsFiled, IsGroup, group_at};
@@ -129,6 +129,7 @@ fn count_moves(slots: &[Slot]) -> usize
 fn place_of(groups: &[Group], key: Key) -> Option<usize>
     ensures known { IfSome result (λ g. g < length groups.now) }
     ensures key { IfSome result (λ g. (group_at groups.now g).key ≡ key) }
+    ensures none { result ≡ None → (g : ℕ) → g < length groups.now → (group_at groups.now g).key ≡ key → ⊥ }
 {
     for (place, group) in groups.iter().enumerate() {
         if group.key() == key {

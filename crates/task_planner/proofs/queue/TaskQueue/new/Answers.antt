@@ -10,5 +10,6 @@ invariant_of-result c =
       few = omega (arith, ap length c.in_ok-slots.ensures ∙ length-map c.args.proposals.now waiting, c.requires.few);
       each = built.each;
       filed = λ i l w. built.filed i l;
+      apart = built.apart;
       movers_are = rw c.as_slice-2.ensures.value at c.count_moves-movers.ensures;
     }
