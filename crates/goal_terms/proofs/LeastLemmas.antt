@@ -1,13 +1,13 @@
 -- The goal of least leaders says of an action what its rule for every topic and broker says.
-use Rattle.std.specs.Prelude.{map, not, find, bytes_eq, if◌then◌else◌, IsTrue, ◌↔◌, Option, Some, None, is_some, option_map, unwrap_or, ◌==◌}
-use Rattle.std.proofs.Common.{◌≡◌, ◌⊎◌, ℕ, ◌+◌, ◌-◌, ◌*◌, ◌^◌, ◌<◌, ◌≤◌, Bool, true, false, cond, List, [], ◌∷◌, ◌++◌, length, get_or, zero, suc, refl, ap, ◌∙◌, sym, arith, inl, inr, length-append, ◌&&◌, drop, drop-cons, add-one}
+use Rattle.std.specs.Prelude.{map, not, find, bytes_eq, if◌then◌else◌, ◌↔◌, Option, Some, None, is_some, option_map, unwrap_or, ◌==◌}
+use Rattle.std.proofs.Common.{◌≡◌, ℕ, ◌+◌, ◌-◌, ◌*◌, ◌^◌, ◌<◌, ◌≤◌, Bool, true, false, cond, List, [], ◌∷◌, length, get_or, zero, suc, refl, ap, ◌∙◌, sym, arith, inl, inr, length-append, ◌&&◌, drop, drop-cons, add-one}
 use Rattle.std.proofs.lemmas.Bool.{cases_Bool, true≢false, false≢true}
 use Rattle.std.proofs.lemmas.List.{length-map}
 use Rattle.std.specs.List.{All, count_by, filter}
 use Rattle.plan_terms.specs.Cluster.{Cluster, Lists, leads}
 use Rattle.plan_terms.specs.Effect.{after}
 use Rattle.plan_terms.specs.Faults.{topics}
-use Rattle.plan_terms.specs.Goal.{Accepts, Lessens, measure, sum_below}
+use Rattle.plan_terms.specs.Goal.{Accepts, Lessens, measure}
 use Rattle.plan_terms.specs.Load.{list_load, sum_parts, topic_leaders}
 use Rattle.plan_terms.specs.States.{is_dead, is_demoted}
 use Rattle.plan_terms.specs.declared.actions.Action.{Action}

@@ -1,15 +1,14 @@
 -- A goal over brokers accepts an action exactly where its two brokers stay in their rooms.
-use Rattle.std.specs.Prelude.{if◌then◌else◌, ◌==◌, min, ◌↔◌, Bool, IsTrue}
-use Rattle.std.proofs.Common.{◌≡◌, ℕ, ◌+◌, ◌-◌, ◌*◌, ◌/◌, ◌<◌, ◌≤◌, true, false, List, [], ◌∷◌, length, get_or, refl, ap, ◌∙◌, sym, arith, inl, inr, zero, suc, eq-eqb}
+use Rattle.std.specs.Prelude.{◌==◌, min, Bool, IsTrue}
+use Rattle.std.proofs.Common.{◌≡◌, ℕ, ◌+◌, ◌-◌, ◌*◌, ◌/◌, ◌<◌, ◌≤◌, true, false, List, [], ◌∷◌, refl, ap, ◌∙◌, arith, inl, inr, zero, suc, eq-eqb}
 use Rattle.std.proofs.Math.Nat.{le-div_iff_mul-le, add-mul}
 use Rattle.std.proofs.lemmas.Bool.{cases_Bool, cases_lt, ne_eqb}
 use Rattle.std.specs.List.{All}
 use Rattle.plan_terms.specs.Cluster.{Cluster, Lists}
 use Rattle.plan_terms.specs.Belongs.{Belongs}
 use Rattle.plan_terms.specs.Fits.{fits}
-use Rattle.plan_terms.specs.Goal.{Accepts}
 use Rattle.goal_terms.specs.Limits.{Limits, SmallWeights}
-use Rattle.goal_terms.specs.Rooms.{no_limit, unscaled, room_between, bound_room, room_at_id, broker_room, StaysIn, InRooms, RoomsDecide}
+use Rattle.goal_terms.specs.Rooms.{no_limit, unscaled, room_between, bound_room, room_at_id, broker_room, StaysIn, RoomsDecide}
 use Rattle.goal_terms.specs.Quantity.{Weights, quantity, total, trade, part_weight}
 use Rattle.goal_terms.specs.PerBroker.{Bounds, outside, bound_excess, per_broker, at_id, unit_brokers}
 use Rattle.goal_terms.specs.Sides.{sides}

@@ -11,7 +11,7 @@ use Rattle.plan_terms.specs.Fits.{fits}
 use Rattle.plan_terms.specs.Goal.{Accepts, Lessens, measure}
 use Rattle.goal_terms.specs.Limits.{Limits, SmallWeights}
 use Rattle.goal_terms.specs.Quantity.{quantity, total, topic_weights}
-use Rattle.goal_terms.specs.PerBroker.{Bounds, bound_excess, broker_excess, unit_brokers, per_broker}
+use Rattle.goal_terms.specs.PerBroker.{bound_excess, broker_excess, unit_brokers, per_broker}
 use Rattle.plan_terms.specs.Faults.{topics}
 use Rattle.goal_terms.proofs.TopicList.{among, bytes-other, cases_text}
 use Rattle.goal_terms.specs.PerTopic.{TopicRule, rule_weights, replica_rule, topic_heat, topic_excesses, per_topic, first_topic, second_topic}

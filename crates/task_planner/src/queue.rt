@@ -1,9 +1,11 @@
 // The queue of tasks.
-ghost use Rattle.std.specs.Prelude.{◌≡◌, ◌<◌, ◌^◌, IsTrue, IfOk, length, map, slice_set};
-ghost use Rattle.std.specs.List.{All, list_any, position};
+ghost use Rattle.std.specs.Prelude.{◌≡◌, ◌<◌, ◌≤◌, ◌^◌, ℕ, true, IsTrue, None, IfOk, IfSome, OnOk, length, map, slice_set, if◌then◌else◌};
+ghost use Rattle.std.specs.List.{All, count_by};
 ghost use Rattle.plan_terms.specs.Belongs.{distinct};
-ghost use Rattle.task_planner.specs.Queue.{slot_at, ended, waiting, moves, may_lead, fits_slot, first_fitting, AreListsOf};
+ghost use Rattle.task_planner.specs.Groups.{AreGroupsTo, Files, IsFiled, IsGroup, group_at};
+ghost use Rattle.task_planner.specs.Queue.{slot_at, ended, waiting, may_lead, moves, fits_slot, first_fitting, AreListsOf};
 
+use crate::group::{Group, Key};
 use crate::slot::Slot;
 use cap_ledger::{Caps, Counts};
 use plan_terms::{Memory, Proposal};
@@ -11,20 +13,27 @@ use std::alloc::Global;
 use std::marker::Model;
 
 /// The tasks of an execution, and which of them wait. A task's number is its place.
+///
+/// The tasks that move replicas are in groups by the first broker that they remove, or where they remove none by the first that
+/// they add; those that change a leader alone are one group. Each group is in order of the tasks.
 #[derive(Drop)]
 pub struct TaskQueue {
     slots: Vec<Slot>,
+    groups: Vec<Group>,
+    // How many tasks that move replicas wait.
+    movers: usize,
 }
 
 impl Model for TaskQueue {
-    ghost use Rattle.std.specs.Prelude.{List, ◌<◌, ◌^◌, length};
+    ghost use Rattle.std.specs.Prelude.{List};
+    ghost use Rattle.task_planner.specs.Groups.{AreGroups};
     ghost use Rattle.task_planner.specs.declared.slot.Slot.{Slot};
 
     ghost Value = { List Slot };
 
     ghost view = { λ q. q.slots.items };
 
-    ghost invariant = { λ q. length q.slots.items < 2 ^ 32 };
+    ghost invariant = { λ q. AreGroups q.slots.items q.groups.items q.movers };
 }
 
 impl TaskQueue {
@@ -35,8 +44,13 @@ impl TaskQueue {
         requires lists { All (AreListsOf _brokers.now) proposals.now }
         ensures { IfOk result (λ queue. queue ≡ map waiting proposals.now) }
     {
+        let slots = waiting_slots(alloc, proposals)?;
+        let groups = groups_of(alloc, slots.as_slice())?;
+        let movers = count_moves(slots.as_slice());
         Ok(TaskQueue {
-            slots: waiting_slots(alloc, proposals)?,
+            slots,
+            groups,
+            movers,
         })
     }
 
@@ -46,10 +60,22 @@ impl TaskQueue {
         ensures { result ≡ first_fitting caps.now counts.now self.now }
     {
         let slots = self.slots.as_slice();
-        match first_of(slots, caps, counts, may_lead(counts, slots)) {
-            None => None,
-            Some(i) => Some(i as u32),
+        let may_lead = self.may_lead(counts);
+        let best = first_of(slots, self.groups.as_slice(), caps, counts, may_lead);
+        if best < slots.len() {
+            Some(best as u32)
+        } else {
+            None
         }
+    }
+
+    // Whether a task may change a leader alone.
+    fn may_lead(&self, counts: &Counts) -> bool
+        ensures { result ≡ may_lead counts.now self.now }
+    {
+        let in_flight = counts.replica_tasks();
+        let waiting = self.movers;
+        in_flight == 0 && waiting == 0
     }
 
     /// The task waits no longer.
@@ -58,29 +84,86 @@ impl TaskQueue {
         requires waits { IsTrue (slot_at self.old task).waits }
         ensures { self.new ≡ slice_set self.old task (ended (slot_at self.old task)) }
     {
-        self.slots[task as usize].end();
+        let slot = &mut self.slots[task as usize];
+        let key = slot.key();
+        self.movers -= one_if(slot.moves());
+        slot.end();
+        if let Some(place) = place_of(self.groups.as_slice(), key) {
+            self.groups[place].advance(self.slots.as_slice());
+        }
     }
 }
 
-// Whether a task may change a leader alone.
-fn may_lead(counts: &Counts, slots: &[Slot]) -> bool
-    ensures { result ≡ may_lead counts.now slots.now }
+// The least task that fits, or the number of tasks where none does. A group for which the caps leave no room is passed over, and
+// one whose head comes after the best task so far is not entered.
+fn first_of(slots: &[Slot], groups: &[Group], caps: &Caps, counts: &Counts, may_lead: bool) -> usize
+    requires each { (g : ℕ) → IsGroup slots.now (group_at groups.now g) }
+    ensures within { result ≤ length slots.now }
+    ensures fits { result < length slots.now → fits_slot caps.now counts.now may_lead (slot_at slots.now result) ≡ true }
+    ensures least { (i : ℕ) → IsFiled groups.now i → fits_slot caps.now counts.now may_lead (slot_at slots.now i) ≡ true → result ≤ i }
 {
-    counts.replica_tasks() == 0 && !any_moves(slots)
+    let mut best = slots.len();
+    for group in groups {
+        if group.key().is_open(caps, counts, may_lead) {
+            best = group.first_fitting(slots, caps, counts, may_lead, best);
+        }
+    }
+    best
 }
 
-// Whether a task that moves replicas waits.
-fn any_moves(slots: &[Slot]) -> bool
-    ensures { result ≡ list_any moves slots.now }
+// 1 or 0.
+fn one_if(yes: bool) -> usize
+    ensures { result ≡ (if yes then 1 else 0) }
 {
-    slots.iter().any(|s| s.moves())
+    usize::from(yes)
 }
 
-// The first task that waits and fits, given whether a task may change a leader alone.
-fn first_of(slots: &[Slot], caps: &Caps, counts: &Counts, may_lead: bool) -> Option<usize>
-    ensures { result ≡ position (fits_slot caps.now counts.now may_lead) slots.now }
+// How many tasks that move replicas wait.
+fn count_moves(slots: &[Slot]) -> usize
+    ensures { result ≡ count_by moves slots.now }
 {
-    slots.iter().position(|s| s.fits(caps, counts, may_lead))
+    slots.iter().filter(|s| s.moves()).count()
+}
+
+// The place of the group with this key.
+fn place_of(groups: &[Group], key: Key) -> Option<usize>
+    ensures known { IfSome result (λ g. g < length groups.now) }
+    ensures key { IfSome result (λ g. (group_at groups.now g).key ≡ key) }
+    ensures none { result ≡ None → (g : ℕ) → g < length groups.now → (group_at groups.now g).key ≡ key → ⊥ }
+{
+    for (place, group) in groups.iter().enumerate() {
+        if group.key() == key {
+            return Some(place);
+        }
+    }
+    None
+}
+
+// Puts a task at the end of the group with its key.
+fn file(alloc: Global, groups: &mut Vec<Group>, key: Key, task: u32) -> Result<(), Memory>
+    ensures { OnOk result (Files key task groups.old.items groups.new.items) }
+{
+    match place_of(groups.as_slice(), key) {
+        Some(place) => groups[place].push(task)?,
+        None => {
+            let mut group = Group::new(alloc, key);
+            group.push(task)?;
+            groups.push(group)?;
+        }
+    }
+    Ok(())
+}
+
+// The groups of the tasks.
+fn groups_of(alloc: Global, slots: &[Slot]) -> Result<Vec<Group>, Memory>
+    requires { length slots.now < 2 ^ 32 }
+    ensures { IfOk result (λ groups. AreGroupsTo slots.now (length slots.now) groups.items) }
+{
+    let mut groups = Vec::new(alloc);
+    for (task, slot) in slots.iter().enumerate() {
+        file(alloc, &mut groups, slot.key(), task as u32)?;
+    }
+    Ok(groups)
 }
 
 // The place of a proposal's task.

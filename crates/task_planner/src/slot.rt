@@ -1,7 +1,9 @@
 // The place of one task in the queue.
 ghost use Rattle.std.specs.Prelude.{◌≡◌, false};
+ghost use Rattle.task_planner.specs.Groups.{key_of};
 ghost use Rattle.task_planner.specs.Queue.{moves, fits_slot};
 
+use crate::group::Key;
 use cap_ledger::{Caps, Counts};
 use exec_terms::differs;
 use plan_terms::Replicas;
@@ -15,6 +17,13 @@ pub struct Slot {
 }
 
 impl Slot {
+    // The key of its group.
+    pub fn key(&self) -> Key
+        ensures { result ≡ key_of self.now }
+    {
+        Key::between(self.before.as_slice(), self.after.as_slice())
+    }
+
     // Whether it waits and moves replicas.
     pub fn moves(&self) -> bool
         ensures { result ≡ moves self.now }

@@ -1,6 +1,5 @@
-use Rattle.std.proofs.Common.{◌∙◌, ◌+◌, ◌-◌, ◌∷◌, length, drop, map, get_or, ap, sym, arith, false, true}
+use Rattle.std.proofs.Common.{◌∙◌, ◌+◌, drop, map, get_or, ap, sym, arith}
 use Rattle.goal_terms.specs.LeastLeaders.{leading_brokers}
-use Rattle.plan_terms.specs.declared.cluster.Broker.{Broker}
 use Rattle.goal_terms.proofs.LeastLemmas.{leading-next, leading-pass, rest-at}
 use Rattle.broker_goals.proofs.excess.leading_place.Goals as goal
 use Rattle.broker_goals.proofs.excess.leading_place.Goals.{then-may_lead+else-left-eq0, else-may_lead}

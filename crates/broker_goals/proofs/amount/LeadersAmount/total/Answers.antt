@@ -1,5 +1,4 @@
 use Rattle.std.proofs.Common.{◌∙◌}
-use Rattle.std.specs.Prelude.{slice_index}
 use Rattle.goal_terms.proofs.ReadingLemmas.{total-read}
 use Rattle.broker_goals.proofs.amount.LeadersAmount.total.Goals as goal
 

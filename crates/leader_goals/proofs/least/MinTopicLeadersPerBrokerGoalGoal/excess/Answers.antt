@@ -1,6 +1,6 @@
-use Rattle.std.proofs.Common.{◌≡◌, ◌∙◌, ◌+◌, ◌-◌, ◌*◌, ℕ, ◌<◌, ◌≤◌, [], length, drop, get_or, sym, ap, arith}
-use Rattle.goal_terms.proofs.LeastLemmas.{floor-here, floor-later, named-count, named-pass}
-use Rattle.goal_terms.specs.LeastLeaders.{floor_excesses, floor_topics, leading_brokers}
+use Rattle.std.proofs.Common.{◌≡◌, ◌∙◌, ◌+◌, ◌-◌, ◌*◌, ℕ, ◌<◌, ◌≤◌, [], length, drop, sym, ap, arith}
+use Rattle.goal_terms.proofs.LeastLemmas.{floor-later, named-count, named-pass}
+use Rattle.goal_terms.specs.LeastLeaders.{floor_topics, leading_brokers}
 use Rattle.leader_goals.proofs.least.MinTopicLeadersPerBrokerGoalGoal.excess.Goals as goal
 use Rattle.leader_goals.proofs.least.MinTopicLeadersPerBrokerGoalGoal.excess.Goals.{then-is_named+else-left-count, else-is_named}
 
