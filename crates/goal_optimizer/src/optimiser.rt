@@ -33,10 +33,12 @@ impl From<Memory> for PlanFault {
     }
 }
 
-/// The turns that were taken, the lists that they lead to, and how far the last goal stays broken, where that ended them.
+/// The turns that were taken, the case that they were taken on, the lists that they lead to, and how far the last goal stays
+/// broken, where that ended them.
 #[derive(Drop)]
 pub struct Outcome {
     pub turns: Vec<Turned>,
+    pub case: Case,
     pub end: Assign,
     pub broken: Option<u128>,
 }
@@ -54,6 +56,7 @@ fn take_turns(
     requires belongs { Belongs case.now start.now }
     ensures outcome { IfOk result (IsOutcome case.now start.now kinds.now) }
     ensures firsts { IfOk result (λ o. TakesFirsts case.now start.now kinds.now o.turns.items) }
+    ensures case { IfOk result (λ o. o.case ≡ case.now) }
 {
     let mut book = LoadBook::new(alloc, case, start)?;
     let mut order = Order::new(alloc, case, &book)?;
@@ -67,16 +70,20 @@ fn take_turns(
         })?;
         let left = measure(goal, case, &book);
         if goal.is_hard(case) && left > 0 {
+            let (case, end) = book.into_parts();
             return Ok(Outcome {
                 turns,
-                end: book.into_lists(),
+                case,
+                end,
                 broken: Some(left),
             });
         }
     }
+    let (case, end) = book.into_parts();
     Ok(Outcome {
         turns,
-        end: book.into_lists(),
+        case,
+        end,
         broken: None,
     })
 }
@@ -98,7 +105,7 @@ pub fn optimise(
 {
     let made = goals_of(alloc, goals.kinds(), case)?;
     let outcome = take_turns(alloc, case, start, goals.kinds(), &made)?;
-    let case = case.copy(alloc)?;
+    let case = outcome.case;
     let start = start.copy(alloc)?;
     let goals = goals.copy(alloc)?;
     let turns = outcome.turns;

@@ -31,6 +31,7 @@ pub fn take_turn<G: Goal>(
     ensures end { IfOk result (λ actions. book.new.lists ≡ after_all actions book.old.lists) }
     ensures belongs { IfOk result (λ actions. IsBookOf case.now book.new) }
     ensures order { IfOk result (λ actions. IsOrderOf case.now book.new.lists order.new) }
+    ensures case { IfOk result (λ actions. book.new.cluster ≡ book.old.cluster) }
 {
     let mut scan = Scan::new(alloc, case, earlier)?;
     let mut actions = Actions::new(alloc);

@@ -21,6 +21,7 @@ loop-place-init c = record {
   belongs = rw c.in_ok-book.ensures (record { same_loads = SameLoads-refl _; lists_belong = c.requires.belongs });
   firsts = rw c.new-turns.ensures.items (turns-nil c.args.case.now [] (meanings c.args.case.now c.args.kinds.now) c.args.start.now);
   order_is = c.in_ok-order.ensures;
+  case_is = ap (λ (b : Book). b.cluster) c.in_ok-book.ensures;
 }
 
 pub bounds-goals-place : goal.bounds-goals-place
@@ -114,10 +115,11 @@ loop-place-preserved c =
           c.loop-place.invariant.goals_are c.loop-place.invariant.turns_are c.requires.belongs Evacuation _ c.in_ok-actions.actions c.loop-place-test.true refl turn
           c.loop-place.invariant.firsts (rw (front, here, c.loop-place.invariant.book_is) at c.in_ok-actions.ensures.firsts));
       order_is = c.in_ok-actions.ensures.order;
+      case_is = c.in_ok-actions.ensures.case ∙ c.loop-place.invariant.case_is;
     }
 
 pub returns-clause-outcome : goal.returns-clause-outcome
 returns-clause-outcome c =
     is_plan c.args.case.now c.args.start.now c.args.kinds.now c.loop-place.turns.items c.loop-place.place
-    c.loop-place.invariant.goals_are c.loop-place.invariant.turns_are c.requires.belongs _ c.into_lists-2.result refl refl c.loop-place-test.false
-    (rw c.into_lists-2.ensures c.loop-place.invariant.book_is) (rw c.into_lists-2.ensures c.loop-place.invariant.belongs.lists_belong)
+    c.loop-place.invariant.goals_are c.loop-place.invariant.turns_are c.requires.belongs _ c.into_parts-case-2.result.1 refl refl c.loop-place-test.false
+    (rw c.into_parts-case-2.ensures.lists c.loop-place.invariant.book_is) (rw c.into_parts-case-2.ensures.lists c.loop-place.invariant.belongs.lists_belong)

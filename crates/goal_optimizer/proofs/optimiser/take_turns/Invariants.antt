@@ -14,4 +14,5 @@ invariant-loop-place l = record {
   belongs : IsBookOf l.case l.book;
   firsts : FirstTurns l.case [] (meanings l.case l.kinds) l.start (map (λ t. t.actions) l.turns.items);
   order_is : IsOrderOf l.case l.book.lists l.order;
+  case_is : l.book.cluster ≡ l.case;
 }

@@ -1,3 +1,4 @@
+use Rattle.std.proofs.Common.{◌∙◌, refl}
 use Rattle.plan_terms.proofs.SameLemmas.{SameLoads-by}
 use Rattle.plan_terms.proofs.EffectLemmas.{fits-legal, targets_known-legal, Belongs-legal}
 use Rattle.plan_terms.proofs.Runs.{Steps-nil, Steps-push, after_all-push}
@@ -11,6 +12,7 @@ scan-init g c = record {
   book_is = rw c.new-actions.ensures;
   belongs = c.requires.belongs;
   order_is = c.requires.order;
+  case_is = refl;
   weights_are = c.in_ok-scan.ensures;
 }
 
@@ -36,5 +38,6 @@ scan-preserved g c = let first = rw c.in-Some.is at c.in_ok-next.ensures.next in
     lists_belong = rw c.apply.ensures.lists (Belongs-legal _ _ _ c.scan.invariant.belongs.lists_belong first.serves.legal);
   };
   order_is = rw c.apply.ensures.lists c.after.ensures;
+  case_is = c.apply.ensures.cluster ∙ c.scan.invariant.case_is;
   weights_are = c.next_lessening.ensures.weights;
 }

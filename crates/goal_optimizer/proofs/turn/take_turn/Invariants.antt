@@ -15,6 +15,7 @@ invariant-scan g l = record {
   book_is : l.book.lists ≡ after_all l.actions l.initial.book.lists;
   belongs : IsBookOf l.case l.book;
   order_is : IsOrderOf l.case l.book.lists l.order;
+  case_is : l.book.cluster ≡ l.initial.book.cluster;
   weights_are : AreWeights g.G.Goal.weighs l.earlier l.case.parts l.scan.weights.items;
 }
 
