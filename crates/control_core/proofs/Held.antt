@@ -14,6 +14,9 @@ use Rattle.exec_terms.specs.declared.task.Task.{Task}
 use Rattle.exec_terms.specs.declared.work.Lease.{Lease}
 use Rattle.exec_terms.specs.declared.work.WorkKind.{WorkKind}
 use Rattle.exec_terms.proofs.WorkLeft.{position-None}
+use Rattle.core_terms.specs.State.{no_job}
+use Rattle.core_terms.specs.Plans.{has_ticket, holder_of}
+use Rattle.core_terms.specs.declared.jobs.Job.{Job}
 use Rattle.core_laws.proofs.Jobs.{absent}
 
 -- whether the answer isn't that no task holds the lease
@@ -57,3 +60,10 @@ held_there s lease = by (position (holds lease) s.tasks) refl where
     with_lease : (o : Option Lease) → has_number lease o ≡ true → is_some (option_map (given_under i (task_at s.tasks i)) o) ≡ true
     with_lease None h = absurd (false≢true h)
     with_lease (Some l) h = refl
+
+-- a job has the ticket where a first one does
+pub ticket_there : (jobs : List Job) (n : ℕ) → is_some (holder_of n jobs) ≡ list_any (has_ticket n) jobs
+ticket_there jobs n = by (holder_of n jobs) refl where
+  by : (o : Option ℕ) → holder_of n jobs ≡ o → is_some o ≡ list_any (has_ticket n) jobs
+  by None e = sym (absent (has_ticket n) jobs (λ i d l. position-None (has_ticket n) jobs i d e l))
+  by (Some i) e = let f = position-Some (has_ticket n) jobs i no_job e in sym (list_any_at (has_ticket n) jobs i no_job f.0 f.1)

@@ -3,7 +3,9 @@ pub mod Firsts
 pub mod Goals
 pub mod Held
 pub mod Ids
+pub mod Kept
 pub mod Known
 pub mod Opened
 pub mod Stepped
 pub mod Working
+pub mod Open

@@ -19,6 +19,7 @@ use std::alloc::Global;
 use std::marker::Model;
 
 /// A service's book: its state, the journal of the events that it took, and the admin that it writes lists to.
+#[derive(Drop)]
 pub struct Book<A: Admin> {
     alloc: Global,
     machine: Machine,

@@ -1,9 +1,10 @@
 // All of the core's state but the samples.
-ghost use Rattle.std.specs.Prelude.{◌≡◌, ◌<◌, ◌&&◌, [], false, length, not, if◌then◌else◌};
-ghost use Rattle.std.specs.List.{list_all, position};
+ghost use Rattle.std.specs.Prelude.{◌≡◌, ◌<◌, ◌&&◌, ◌==◌, [], false, true, length, not, slice_set, if◌then◌else◌};
+ghost use Rattle.std.specs.List.{filter, list_all, position};
 ghost use Rattle.exec_terms.specs.Words.{is_completed};
 ghost use Rattle.exec_terms.specs.Machine.{any_unfinished};
-ghost use Rattle.core_terms.specs.Jobs.{is_in_execution, with_status};
+ghost use Rattle.core_terms.specs.Jobs.{is_in_execution, user_task_at, with_status};
+ghost use Rattle.user_tasks.specs.Tasks.{is_open};
 ghost use Rattle.core_terms.specs.Works.{closed, execution_ended};
 
 use crate::places::first_in_execution;
@@ -19,19 +20,37 @@ pub struct Desk {
     pub(crate) exec: Exec,
     pub(crate) tasks: TaskTable,
     pub(crate) jobs: Vec<Job>,
+    // the places of the user tasks that are open, so that none of the others is looked at
+    pub(crate) open_tasks: Vec<usize>,
     pub(crate) tickets: u64,
     pub(crate) closing: bool,
 }
 
 impl Model for Desk {
-    ghost use Rattle.std.specs.Prelude.{◌≡◌, length};
     ghost use Rattle.core_terms.specs.State as state;
+    ghost use Rattle.control_core.specs.Desks.{IsDesk};
 
     ghost Value = { state.Desk };
 
     ghost view = { λ d. record { exec = d.exec; tasks = d.tasks; jobs = d.jobs.items; tickets = d.tickets; closing = d.closing } };
 
-    ghost invariant = { λ d. length d.jobs.items ≡ length d.tasks };
+    ghost invariant = { λ d. IsDesk d.tasks d.jobs.items d.open_tasks.items };
+}
+
+// Sets how far the user task at a place is.
+fn set_at(tasks: &mut TaskTable, place: usize, status: Status)
+    requires { place < length tasks.old }
+    ensures { tasks.new ≡ slice_set tasks.old place (record (user_task_at tasks.old place) { status = status }) }
+{
+    let _few = tasks.tasks();
+    tasks.set(place as u64 + 1, status);
+}
+
+// Leaves one place out.
+fn leave_out(places: &mut Vec<usize>, place: usize)
+    ensures { places.new.items ≡ filter (λ i. not (i == place)) places.old.items }
+{
+    places.retain(|i| *i != place);
 }
 
 impl Desk {
@@ -43,18 +62,22 @@ impl Desk {
             exec,
             tasks: TaskTable::new(alloc),
             jobs: Vec::new(alloc),
+            open_tasks: Vec::new(alloc),
             tickets: 0,
             closing: false,
         }
     }
 
-    // Sets how far the user task at a place is.
+    // Sets how far the user task at a place is, which is open.
     pub(crate) fn set_status(&mut self, place: usize, status: Status)
-        requires { place < length self.old.tasks }
+        requires place { place < length self.old.tasks }
+        requires is_open { is_open (user_task_at self.old.tasks place).status ≡ true }
         ensures { self.new ≡ with_status self.old place status }
     {
-        let _few = self.tasks.tasks();
-        self.tasks.set(place as u64 + 1, status);
+        set_at(&mut self.tasks, place, status);
+        if !status.is_open() {
+            leave_out(&mut self.open_tasks, place);
+        }
     }
 
     // Whether each task of the execution is completed.
@@ -67,7 +90,8 @@ impl Desk {
 
     // The user task at a place ends with its execution.
     fn end_execution(&mut self, place: usize)
-        requires { place < length self.old.tasks }
+        requires place { place < length self.old.tasks }
+        requires is_open { is_open (user_task_at self.old.tasks place).status ≡ true }
         ensures { self.new ≡ execution_ended self.old (Some place) }
     {
         if self.all_completed() {
@@ -90,7 +114,7 @@ impl Desk {
         if !was_executing || self.exec.is_executing() {
             return;
         }
-        match first_in_execution(self.tasks.tasks()) {
+        match first_in_execution(self.tasks.tasks(), &self.open_tasks) {
             None => {}
             Some(place) => self.end_execution(place),
         }

@@ -55,7 +55,7 @@ impl Machine {
         if self.desk.is_sure(event) {
             return Ok(());
         }
-        journal.reserve(self.desk.kept_for() + 2)?;
+        journal.reserve(self.desk.most_kept() + 2)?;
         Ok(())
     }
 

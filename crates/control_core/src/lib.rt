@@ -13,6 +13,8 @@ mod serve;
 mod shown;
 mod stops;
 mod submits;
+#[cfg(test)]
+mod tests;
 mod writes;
 
 pub use book::Book;

@@ -59,7 +59,7 @@ impl Desk {
         ensures state { self.new ≡ taken_by self.old }
         ensures reply { result ≡ reply_take self.old }
     {
-        let planning = any_planning(self.tasks.tasks());
+        let planning = any_planning(self.tasks.tasks(), &self.open_tasks);
         let closing = self.closing;
         let was_executing = self.exec.is_executing();
         let outcome = self.exec.take();

@@ -1,57 +1,131 @@
-// The places of user tasks and jobs, the first first.
-ghost use Rattle.std.specs.Prelude.{◌≡◌, ◌<◌, IfSome, length};
+// The places of user tasks and jobs, the first first. What only open user tasks can be is looked for among those alone.
+ghost use Rattle.std.specs.Prelude.{◌≡◌, ◌<◌, IfSome, find, is_none, length, true};
 ghost use Rattle.std.specs.List.{position, list_any, zip};
-ghost use Rattle.core_terms.specs.Jobs.{is_active, is_in_execution, plans_execution};
+ghost use Rattle.user_tasks.specs.Tasks.{is_open};
+ghost use Rattle.core_terms.specs.State.{job_at};
+ghost use Rattle.core_terms.specs.Jobs.{is_active, is_in_execution, plans_execution, user_task_at};
 ghost use Rattle.core_terms.specs.Plans.{has_ticket, holder_of, waits};
+ghost use Rattle.control_core.specs.Desks.{open_places};
 
 use core_cases::is_dry;
 use core_terms::Job;
 use user_tasks::{Status, UserTask};
 
-/// Whether a status is that of a user task that waits for its plan.
-pub fn is_active(status: Status) -> bool
-    ensures { result ≡ is_active status }
+// Whether the plan of the user task at a place is carried out.
+fn is_in_execution_at(tasks: &[UserTask], place: usize) -> bool
+    ensures { result ≡ is_in_execution (user_task_at tasks.now place).status }
 {
-    matches!(status, Status::Active)
+    match tasks.get(place) {
+        Some(task) => matches!(task.status, Status::InExecution),
+        None => false,
+    }
 }
 
-// Whether it is that of one whose plan is carried out.
-fn is_in_execution(status: Status) -> bool
-    ensures { result ≡ is_in_execution status }
+// Whether the user task at a place waits for its plan.
+fn is_active_at(tasks: &[UserTask], place: usize) -> bool
+    ensures { result ≡ is_active (user_task_at tasks.now place).status }
 {
-    matches!(status, Status::InExecution)
+    match tasks.get(place) {
+        Some(task) => matches!(task.status, Status::Active),
+        None => false,
+    }
 }
 
-// Whether its plan is being made, to be carried out.
-fn plans_execution(task: &UserTask) -> bool
-    ensures { result ≡ plans_execution task.now }
+// Whether that plan is being made, to be carried out.
+fn plans_execution_at(tasks: &[UserTask], place: usize) -> bool
+    ensures { result ≡ plans_execution (user_task_at tasks.now place) }
 {
-    is_active(task.status) && !is_dry(&task.ask)
+    match tasks.get(place) {
+        Some(task) => matches!(task.status, Status::Active) && !is_dry(&task.ask),
+        None => false,
+    }
+}
+
+// Whether no planner has the job at a place.
+fn is_free_at(jobs: &[Job], place: usize) -> bool
+    ensures { result ≡ is_none (job_at jobs.now place).ticket }
+{
+    match jobs.get(place) {
+        Some(job) => job.ticket.is_none(),
+        None => true,
+    }
+}
+
+// Whether the job at a place is active and no planner has it.
+fn waits_at(tasks: &[UserTask], jobs: &[Job], place: usize) -> bool
+    ensures { result ≡ waits (user_task_at tasks.now place, job_at jobs.now place) }
+{
+    is_active_at(tasks, place) && is_free_at(jobs, place)
+}
+
+// The first of these places whose user task's plan is carried out.
+fn executing_among(tasks: &[UserTask], places: &[usize]) -> Option<usize>
+    ensures { result ≡ find (λ i. is_in_execution (user_task_at tasks.now i).status) places.now }
+{
+    places
+        .iter()
+        .copied()
+        .find(|place| is_in_execution_at(tasks, *place))
+}
+
+// The first of these places whose user task's plan is being made, to be carried out.
+fn planning_among(tasks: &[UserTask], places: &[usize]) -> Option<usize>
+    ensures { result ≡ find (λ i. plans_execution (user_task_at tasks.now i)) places.now }
+{
+    places
+        .iter()
+        .copied()
+        .find(|place| plans_execution_at(tasks, *place))
+}
+
+// The first of these places whose job waits.
+fn waiting_among(tasks: &[UserTask], jobs: &[Job], places: &[usize]) -> Option<usize>
+    ensures { result ≡ find (λ i. waits (user_task_at tasks.now i, job_at jobs.now i)) places.now }
+{
+    places
+        .iter()
+        .copied()
+        .find(|place| waits_at(tasks, jobs, *place))
 }
 
 /// The first user task whose plan is carried out.
-pub fn first_in_execution(tasks: &[UserTask]) -> Option<usize>
-    ensures { result ≡ position (λ t. is_in_execution t.status) tasks.now }
+pub fn first_in_execution(tasks: &[UserTask], open_tasks: &[usize]) -> Option<usize>
+    requires { open_tasks.now ≡ open_places tasks.now }
+    ensures place { result ≡ position (λ t. is_in_execution t.status) tasks.now }
+    ensures within { IfSome result (λ i. (i < length tasks.now) × (is_open (user_task_at tasks.now i).status ≡ true)) }
 {
-    tasks.iter().position(|t| is_in_execution(t.status))
+    executing_among(tasks, open_tasks)
 }
 
 /// The first one whose plan is being made, to be carried out.
-pub fn first_planning(tasks: &[UserTask]) -> Option<usize>
+pub fn first_planning(tasks: &[UserTask], open_tasks: &[usize]) -> Option<usize>
+    requires { open_tasks.now ≡ open_places tasks.now }
     ensures { result ≡ position plans_execution tasks.now }
 {
-    tasks.iter().position(plans_execution)
+    planning_among(tasks, open_tasks)
 }
 
 /// Whether there is one.
-pub fn any_planning(tasks: &[UserTask]) -> bool
+#[tactic(auto, using(crate::proofs::Open::planning_any))]
+pub fn any_planning(tasks: &[UserTask], open_tasks: &[usize]) -> bool
+    requires { open_tasks.now ≡ open_places tasks.now }
     ensures { result ≡ list_any plans_execution tasks.now }
 {
-    tasks.iter().any(plans_execution)
+    first_planning(tasks, open_tasks).is_some()
 }
 
-/// Whether a planner has the job under this ticket.
-pub fn has_ticket(job: &Job, ticket: u64) -> bool
+/// The first job that waits for a planner.
+pub fn first_waiting(tasks: &[UserTask], jobs: &[Job], open_tasks: &[usize]) -> Option<usize>
+    requires places { open_tasks.now ≡ open_places tasks.now }
+    requires one_each { length jobs.now ≡ length tasks.now }
+    ensures place { result ≡ position waits (zip tasks.now jobs.now) }
+    ensures within { IfSome result (λ i. (i < length tasks.now) × (i < length jobs.now)) }
+{
+    waiting_among(tasks, jobs, open_tasks)
+}
+
+// Whether a planner has the job under this ticket.
+fn has_ticket(job: &Job, ticket: u64) -> bool
     ensures { result ≡ has_ticket ticket job.now }
 {
     match job.ticket {
@@ -65,26 +139,4 @@ pub fn holder_of(jobs: &[Job], ticket: u64) -> Option<usize>
     ensures { result ≡ holder_of ticket jobs.now }
 {
     jobs.iter().position(|j| has_ticket(j, ticket))
-}
-
-// Whether the job is active and no planner has it.
-fn waits(task: &UserTask, job: &Job) -> bool
-    ensures { result ≡ waits (task.now, job.now) }
-{
-    is_active(task.status) && job.ticket.is_none()
-}
-
-// The place of the first job that waits.
-fn waiting_place(tasks: &[UserTask], jobs: &[Job]) -> Option<usize>
-    ensures { result ≡ position waits (zip tasks.now jobs.now) }
-{
-    tasks.iter().zip(jobs).position(|(t, j)| waits(t, j))
-}
-
-/// The first job that waits for a planner.
-pub fn first_waiting(tasks: &[UserTask], jobs: &[Job]) -> Option<usize>
-    ensures place { result ≡ position waits (zip tasks.now jobs.now) }
-    ensures within { IfSome result (λ i. (i < length tasks.now) × (i < length jobs.now)) }
-{
-    waiting_place(tasks, jobs)
 }

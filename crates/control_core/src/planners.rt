@@ -1,8 +1,9 @@
 // Jobs and their tickets.
-ghost use Rattle.std.specs.Prelude.{◌≡◌, ◌+◌, ◌<◌, ◌^◌, Some, false, IfOk, IfSome, OnOk, OnErr, length};
+ghost use Rattle.std.specs.Prelude.{◌≡◌, ◌+◌, ◌<◌, ◌^◌, Some, false, true, IfOk, IfSome, OnOk, OnErr, length};
 ghost use Rattle.plan_terms.specs.Belongs.{Belongs, IsAssignment};
 ghost use Rattle.exec_terms.specs.Settled.{settled_lists};
-ghost use Rattle.core_terms.specs.Jobs.{is_done_at_once, with_plan, MayLaunch};
+ghost use Rattle.core_terms.specs.Jobs.{is_done_at_once, user_task_at, with_plan, MayLaunch};
+ghost use Rattle.user_tasks.specs.Tasks.{is_open};
 ghost use Rattle.core_terms.specs.Plans.{first_waiting, goal_failed, holder_of, is_failure_for, is_plan_for, planned_back, problem_at, reply_plan_back, ticketed, unticketed, with_failure};
 
 use crate::desk::Desk;
@@ -41,7 +42,7 @@ impl Desk {
         ensures place { result ≡ first_waiting self.now }
         ensures within { IfSome result (λ i. i < length self.now.jobs) }
     {
-        first_waiting(self.tasks.tasks(), &self.jobs)
+        first_waiting(self.tasks.tasks(), &self.jobs, &self.open_tasks)
     }
 
     /// The place of the job of a ticket.
@@ -136,7 +137,8 @@ impl Desk {
 
     /// The goal of the failure fails the job at a place.
     pub fn take_failure(&mut self, place: usize, failure: &Failure)
-        requires { place < length self.old.jobs }
+        requires place { place < length self.old.jobs }
+        requires is_open { is_open (user_task_at self.old.tasks place).status ≡ true }
         ensures { self.new ≡ with_failure self.old place failure.now }
     {
         let broken = broken_of(failure);
@@ -154,6 +156,7 @@ impl Desk {
         changes: Vec<Proposal>,
     ) -> Result<(), Memory>
         requires place { place < length self.old.jobs }
+        requires is_open { is_open (user_task_at self.old.tasks place).status ≡ true }
         requires may { MayLaunch self.old place changes.items }
         ensures state { OnOk result (self.new ≡ with_plan self.old place changes.items) }
         ensures err { OnErr result (self.new ≡ self.old) }

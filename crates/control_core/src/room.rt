@@ -1,29 +1,23 @@
 // Room in the journal.
-ghost use Rattle.std.specs.Prelude.{◌≡◌, ◌+◌, ◌≤◌, ◌^◌, is_some};
-ghost use Rattle.std.specs.List.{count_by, list_any};
+ghost use Rattle.std.specs.Prelude.{◌≡◌, ◌+◌, ◌≤◌, ◌^◌};
+ghost use Rattle.std.specs.List.{list_any};
 ghost use Rattle.exec_terms.specs.Words.{holds, holds_for};
 ghost use Rattle.core_terms.specs.History.{is_sure, kept_for};
 ghost use Rattle.core_terms.specs.Plans.{has_ticket};
 
 use crate::desk::Desk;
 use crate::movers::is_receipt_of;
-use crate::places::has_ticket;
+use crate::places::holder_of;
 use core_terms::{Event, Job};
 use exec_terms::{LeaseFault, WorkKind};
 use executor_core::Exec;
 
-// How many jobs have a ticket.
-fn tickets_out(jobs: &[Job]) -> usize
-    ensures { result ≡ count_by (λ j. is_some j.ticket) jobs.now }
-{
-    jobs.iter().filter(|j| j.ticket.is_some()).count()
-}
-
 // Whether some job has the ticket.
+#[tactic(auto, using(crate::proofs::Held::ticket_there))]
 fn is_ticket_out(jobs: &[Job], ticket: u64) -> bool
     ensures { result ≡ list_any (has_ticket ticket) jobs.now }
 {
-    jobs.iter().any(|j| has_ticket(j, ticket))
+    holder_of(jobs, ticket).is_some()
 }
 
 // Whether a task holds the lease for a kind of work.
@@ -46,14 +40,14 @@ fn is_held(exec: &Exec, lease: u64) -> bool
 }
 
 impl Desk {
-    /// For how many entries the journal keeps room.
-    pub fn kept_for(&self) -> usize
-        ensures value { result ≡ kept_for self.now }
+    /// No fewer entries than those for which the journal keeps room: one for each task, one for each job, and one for Close.
+    #[tactic(auto, using(crate::proofs::Kept::kept_few))]
+    pub fn most_kept(&self) -> usize
+        ensures most { kept_for self.now ≤ result }
         ensures few { result ≤ 2 ^ 63 + 2 ^ 33 }
     {
         let _few = self.tasks.tasks();
-        let close = if self.closing { 0 } else { 1 };
-        self.exec.leases_out() as usize + tickets_out(&self.jobs) + close
+        self.exec.tasks() as usize + self.jobs.len() + 1
     }
 
     /// Whether an event ends a lease or a ticket which is out, or is the first Close.

@@ -1,5 +1,5 @@
 // Requests for plans.
-ghost use Rattle.std.specs.Prelude.{◌≡◌, ◌+◌, ◌<◌, ◌^◌, [], None, IfOk, IfSome, OnOk, OnErr, length, map};
+ghost use Rattle.std.specs.Prelude.{◌≡◌, ◌++◌, ◌∷◌, ◌+◌, ◌<◌, ◌^◌, [], None, IfOk, IfSome, OnOk, OnErr, length, map, vec_capacity};
 ghost use Rattle.std.specs.List.{All};
 ghost use Rattle.user_tasks.specs.Tasks.{open_count};
 ghost use Rattle.core_terms.specs.Asked.{goals_of};
@@ -102,6 +102,22 @@ fn new_job(alloc: Global, goals: GoalList) -> Job
     }
 }
 
+// Adds a job for which there is room.
+fn add_job(jobs: &mut Vec<Job>, job: Job)
+    requires { length jobs.old.items < vec_capacity jobs.old }
+    ensures { jobs.new.items ≡ jobs.old.items ++ job ∷ [] }
+{
+    let _ = jobs.push(job);
+}
+
+// Adds a place for which there is room.
+fn add_place(places: &mut Vec<usize>, place: usize)
+    requires { length places.old.items < vec_capacity places.old }
+    ensures { places.new.items ≡ places.old.items ++ place ∷ [] }
+{
+    let _ = places.push(place);
+}
+
 impl Desk {
     /// The user task of an id, if it was asked the same.
     pub fn find(&self, alloc: Global, parts: &[Part], id: Uuid, ask: &Ask) -> Result<Reply, Memory>
@@ -128,9 +144,9 @@ impl Desk {
     {
         let tasks = self.tasks.tasks();
         if self.exec.is_executing() {
-            first_in_execution(tasks)
+            first_in_execution(tasks, &self.open_tasks)
         } else {
-            first_planning(tasks)
+            first_planning(tasks, &self.open_tasks)
         }
     }
 
@@ -142,14 +158,11 @@ impl Desk {
     }
 
     /// How many user tasks are open.
+    #[tactic(auto, using(crate::proofs::Open::open_counted))]
     pub fn open_count(&self) -> usize
         ensures { result ≡ open_count self.now.tasks }
     {
-        self.tasks
-            .tasks()
-            .iter()
-            .filter(|t| t.status.is_open())
-            .count()
+        self.open_tasks.len()
     }
 
     /// Makes the request a user task.
@@ -162,9 +175,12 @@ impl Desk {
     {
         let ask = ask.copy(alloc)?;
         self.jobs.reserve(1)?;
+        self.open_tasks.reserve(1)?;
+        let place = self.tasks.tasks().len();
         match self.tasks.admit(ask) {
             Ok(id) => {
-                let _ = self.jobs.push(new_job(alloc, goals));
+                add_job(&mut self.jobs, new_job(alloc, goals));
+                add_place(&mut self.open_tasks, place);
                 Ok(Reply::Accepted(id))
             }
             Err(_) => Err(Memory),
