@@ -144,6 +144,13 @@ impl<A: Admin> Book<A> {
         self.settled = true;
     }
 
+    /// How many partitions the cluster has, and the admin with it.
+    pub fn parts(&self) -> usize
+        ensures { result ≡ A.parts self.now.admin }
+    {
+        self.machine.file.case().parts().len()
+    }
+
     /// The admin.
     pub fn admin(&self) -> &A
         ensures { result.now ≡ self.now.admin }

@@ -175,6 +175,7 @@ fn run_rows(
 ) -> Result<(), Fail> {
     let mut run = run_of(alloc, text, MemoryCluster::new(alloc))?;
     steps(rt, alloc, &mut run, rows)?;
+    assert!(rt; run.book.parts() > 0);
     assert_eq!(rt; run.book.admin().list(0), list);
     Ok(())
 }
@@ -281,6 +282,7 @@ fn run_failing(
     let admin = FailingAdmin::new(MemoryCluster::new(alloc), vec![in alloc; 2]?);
     let mut run = run_of(alloc, TWO, admin)?;
     steps(rt, alloc, &mut run, rows)?;
+    assert!(rt; run.book.parts() > 0);
     assert_eq!(rt; run.book.admin().inner().list(0), list);
     assert_eq!(rt; run.book.journal().len(), entries);
     assert_eq!(rt; run.book.failures(), 1);
