@@ -7,6 +7,7 @@ ghost use Rattle.cluster_json.specs.Ranges.{IsFile};
 ghost use Rattle.cluster_json.specs.Views.{file_seen};
 ghost use Rattle.core_terms.specs.Step.{reply_of};
 ghost use Rattle.core_terms.specs.History.{AreLegal};
+ghost use Rattle.core_terms.specs.Input.{IsInput};
 ghost use Rattle.core_laws.specs.Events.{is_close};
 ghost use Rattle.exec_terms.specs.Machine.{lists_now};
 
@@ -122,6 +123,7 @@ impl<A: Admin> Book<A> {
     pub fn journal(&self) -> &[Event]
         ensures value { result.now ≡ self.now.journal }
         ensures legal { AreLegal self.now.journal }
+        ensures input { IsInput self.now.file }
         ensures lists { IfSome (A.told self.now.admin) (λ lists. lists ≡ lists_now (state_of self.now).desk.exec) }
     {
         self.journal.as_slice()

@@ -35,7 +35,7 @@ one_of true b n h k = absurd (omega arith)
 one_of false b n h k = k (omega (arith, h))
 
 -- none is counted, so there is none
-none_of : {X : Type 0} (p : X → Bool) (xs : List X) → count_by p xs ≡ 0 → list_any p xs ≡ false
+pub none_of : {X : Type 0} (p : X → Bool) (xs : List X) → count_by p xs ≡ 0 → list_any p xs ≡ false
 none_of p [] h = refl
 none_of p (x ∷ xs) h = one_of (p x) (list_any p xs) (count_by p xs) (sym (sum_by-cons (λ y. cond (p y) 1 0) x xs) ∙ h) (none_of p xs)
 

@@ -26,3 +26,4 @@ pub mod Follows
 pub mod Room
 pub mod Problems
 pub mod Reported
+pub mod Alone

@@ -58,7 +58,7 @@ free_in : (t : Task) → t.lease ≡ None → is_out t ≡ false
 free_in t e = rw e refl
 
 -- where some pass, there is a first one
-some_place : (p : Task → Bool) (xs : List Task) → list_any p xs ≡ true → position p xs ≡ None → ⊥
+pub some_place : (p : Task → Bool) (xs : List Task) → list_any p xs ≡ true → position p xs ≡ None → ⊥
 some_place p xs h e = true≢false (sym h ∙ absent p xs (λ i d l. position-None p xs i d e l))
 
 -- a lease that is out ends
@@ -91,7 +91,7 @@ held_so lease kind xs h = by (list_any (holds lease) xs) refl where
         absurd (true≢false (sym (list_any_at (holds lease) xs i no_task f.0 (holds_too lease kind (task_at xs i).lease f.1)) ∙ e))
 
 -- an event with a lease that is out for its kind of work ends the lease
-ended_less : (f : Task → Task) → ((t : Task) → (f t).lease ≡ None) → (s : State) (lease : ℕ) (kind : WorkKind) → list_any (holds_for lease kind) s.tasks ≡ true
+pub ended_less : (f : Task → Task) → ((t : Task) → (f t).lease ≡ None) → (s : State) (lease : ℕ) (kind : WorkKind) → list_any (holds_for lease kind) s.tasks ≡ true
     → leases_out (ended f s lease (test_lease s lease kind)).tasks + 1 ≤ leases_out s.tasks
 unfolding test_lease
 ended_less f free s lease kind h = by (position (holds_for lease kind) s.tasks) refl where
@@ -112,14 +112,14 @@ ended_most f free s lease kind = by (test_lease s lease kind) refl where
   by (Err (Stale n)) e = omega arith
   by (Err AbortAsked) e = end_most s lease
 
-failed_free : (t : Task) → (one_failed t).lease ≡ None
+pub failed_free : (t : Task) → (one_failed t).lease ≡ None
 failed_free t = by (nat_lt (t.faults + 1) 3) where
   by : (c : Bool) → (cond c (record t { faults = t.faults + 1; lease = None }) (record t { faults = t.faults + 1; phase = Aborting; doomed = true; lease = None })).lease ≡ None
   by true = refl
   by false = refl
 
 -- a take gives at most one
-take_one : (s : State) → leases_out (after_take s).tasks ≤ leases_out s.tasks + 1
+pub take_one : (s : State) → leases_out (after_take s).tasks ≤ leases_out s.tasks + 1
 take_one s = by (next_work s) refl where
   by : (r : Result Given Idle) → r ≡ next_work s → leases_out (taken s r).tasks ≤ leases_out s.tasks + 1
   by (Ok g) e = count_by-set_one is_out s.tasks g.task (with_lease g.lease g.work (task_at s.tasks g.task)) no_task (is_given s g e).there
@@ -143,7 +143,7 @@ kill_most s b = by (can_die s b) where
   by true = count_by-map is_out (killed_by b) (killed_out b) s.tasks
   by false = omega arith
 
-launch_most : (s : State) (ps : List Proposal) → leases_out (after_launch s ps).tasks ≤ leases_out s.tasks
+pub launch_most : (s : State) (ps : List Proposal) → leases_out (after_launch s ps).tasks ≤ leases_out s.tasks
 launch_most s ps = by (first_unfinished s) where
   by : (o : Option ℕ) → leases_out (launched s ps o).tasks ≤ leases_out s.tasks
   by (Some i) = omega arith
@@ -168,7 +168,7 @@ for_close d = cond d.closing 0 1
 
 -- the desk, where its executor has moved on, keeps its tickets
 module _ (d : Desk) (one : length d.jobs ≡ length d.tasks) where
-  ended_tickets : (u : State) (i : ℕ) → i < length d.tasks → count_by is_given_out (set d.jobs i (ended_job (with_exec d u) i)) ≡ tickets_out d
+  pub ended_tickets : (u : State) (i : ℕ) → i < length d.tasks → count_by is_given_out (set d.jobs i (ended_job (with_exec d u) i)) ≡ tickets_out d
   ended_tickets u i l = count_by-same is_given_out d.jobs i (ended_job (with_exec d u) i) no_job (omega (arith, l, one)) refl
 
   pub moved_kept : (u : State) → kept_for (moved d u) ≡ leases_out u.tasks + tickets_out d + for_close d
@@ -270,7 +270,7 @@ module _ (d : Desk) (one : length d.jobs ≡ length d.tasks) where
   closes false e = rw e (omega arith)
 
 -- a receipt that fits is of a lease that is out for a copy
-fitting : (s : State) (r : ReceiptView) → is_receipt s r ≡ true → list_any (holds_for r.lease ForCopy) s.tasks ≡ true
+pub fitting : (s : State) (r : ReceiptView) → is_receipt s r ≡ true → list_any (holds_for r.lease ForCopy) s.tasks ≡ true
 fitting s r h = by (position (holds r.lease) s.tasks) refl h where
   copying : (i : ℕ) (o : Option Lease) → (task_at s.tasks i).lease ≡ o → has_number r.lease o ≡ true → is_receipt_of r (option_map (given_under i (task_at s.tasks i)) o) ≡ true
       → has_number_for r.lease ForCopy o ≡ true

@@ -2,3 +2,4 @@ pub mod Laws
 pub mod Events
 pub mod Books
 pub mod Reported
+pub mod Alone

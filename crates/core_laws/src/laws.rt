@@ -1,4 +1,5 @@
 // Laws of the core, each the contract of a function that does nothing.
+ghost use Rattle.core_laws.specs.Alone.{IdleIsDone, PlannedIsLess, TakenWorkIsOut, WorkedIsLess};
 ghost use Rattle.core_laws.specs.Books.{AdminFollows, EntriesGiveOneEach, ProblemsBelong, RoomIsKept};
 ghost use Rattle.core_laws.specs.Events.{ClosingWasAsked, EndedWorkIsLess, EventsMoveExecutor, ExecutingIsExact, HistoriesKeepCaps, HistoriesShowLists, OnlyPlansRaiseWork, OnlyRequestsMeetExecution, OthersRaiseNone, PlansCanBeLaunched, RefusalsKeepState, StartsKeepCapsInForce, WorkIsThere};
 ghost use Rattle.core_laws.specs.Reported.{CopiesAreReported};
@@ -10,9 +11,9 @@ ghost use Rattle.core_laws.specs.Laws.{EachEventKeeps, EventsKeepTasks, EventsKe
 /// is out for one job, which is active; and the goals of an active job begin with evacuation.
 ///
 /// Each legal event keeps that from any state of which it holds. The list of a partition is the old one, the new one or, while its
-/// task is in flight, both; a task
-/// that is completed had each of its copies reported, in their order; requests end only after a Close; and where no event lowered a
-/// cap, the caps in force are kept.
+/// task is in flight, both; a task that is
+/// completed had each of its copies reported, in their order; requests end only after a Close; and where no event lowered a cap, the
+/// caps in force are kept.
 pub fn every_history()
     ensures opening { OpeningIsSound }
     ensures keeps { EachEventKeeps }
@@ -56,4 +57,14 @@ pub fn every_book()
     ensures room { RoomIsKept }
     ensures follows { AdminFollows }
     ensures problems { ProblemsBelong }
+{}
+
+/// What one who works alone meets: the event that reports work which was just taken takes no memory and isn't stale, and leaves less
+/// work; a plan or a failure for the job that was just taken isn't sent back, and one job less waits; and where no lease and no ticket
+/// is out, neither a job nor work is to be had only where no task and no job is unfinished.
+pub fn every_round()
+    ensures out { TakenWorkIsOut }
+    ensures worked { WorkedIsLess }
+    ensures planned { PlannedIsLess }
+    ensures idle { IdleIsDone }
 {}

@@ -15,3 +15,4 @@ pub mod Faults
 pub mod Sound
 pub mod Examples
 pub mod Writes
+pub mod Ends

@@ -8,6 +8,7 @@ mod faults;
 mod jobs;
 mod laws;
 mod problem;
+mod pumps;
 mod replies;
 mod shows;
 
@@ -18,6 +19,7 @@ pub use jobs::{Broken, Job};
 pub use laws::{definitions_on_examples, sameness_is_equality};
 pub use plan_terms::Measured;
 pub use problem::Problem;
+pub use pumps::PumpEnd;
 pub use replies::{Named, Outcome, Reason, Reply};
 pub use shows::{BrokerShown, ExecutorState, PartShown, Shown, StateShown, TaskShown};
 pub use user_tasks::Query;

@@ -18,8 +18,8 @@ use Rattle.rest_replies.specs.Texts.{head_text, reply_text}
 use Rattle.rest_replies.specs.declared.answer.Answer.{Answer}
 use Rattle.rest_replies.specs.declared.texts.Code.{Code}
 use Rattle.rest_replies.specs.declared.texts.Code.TheVariants as code
-use Rattle.rest_replies.specs.declared.told.PumpEnd.{PumpEnd}
-use Rattle.rest_replies.specs.declared.told.PumpEnd.TheVariants as pump
+use Rattle.core_terms.specs.declared.pumps.PumpEnd.{PumpEnd}
+use Rattle.core_terms.specs.declared.pumps.PumpEnd.TheVariants as pump
 use Rattle.rest_replies.specs.declared.told.Told.{Told}
 use Rattle.rest_replies.specs.declared.told.Told.TheVariants as told
 

@@ -3,7 +3,7 @@ ghost use Rattle.std.specs.Prelude.{◌≡◌};
 ghost use Rattle.core_terms.specs.declared.faults.StepFault.TheVariants as step;
 ghost use Rattle.rest_parse.specs.declared.calls.HttpFault.TheVariants as http;
 ghost use Rattle.rest_replies.specs.Answers.{reply_of};
-ghost use Rattle.rest_replies.specs.declared.told.PumpEnd.TheVariants as pump;
+ghost use Rattle.core_terms.specs.declared.pumps.PumpEnd.TheVariants as pump;
 ghost use Rattle.rest_replies.specs.declared.told.Told.TheVariants as told;
 
 use crate::replies::MEMORY_REPLY;

@@ -13,7 +13,8 @@ mod told;
 
 pub use laws::memory_reply_is_a_reply;
 pub use replies::{MEMORY_REPLY, reply_bytes};
-pub use told::{PumpEnd, Told};
+pub use core_terms::PumpEnd;
+pub use told::Told;
 
 #[cfg(test)]
 mod tests;

@@ -1,17 +1,6 @@
 // What is told to a client.
-use core_terms::{Reply, StepFault};
+use core_terms::{PumpEnd, Reply, StepFault};
 use rest_parse::{HttpFault, Stop};
-
-/// How a pump ends: rounds of work that one client asks for.
-#[derive(Clone, Copy, Debug, PartialEq, Eq)]
-pub enum PumpEnd {
-    /// So many rounds did something; and whether the pump ended since there was no work.
-    Done { done: u32, idle: bool },
-    /// A call of the admin failed. The number, at least 1, is that of the failed calls so far.
-    AdminFault(u64),
-    /// Want of memory.
-    Memory,
-}
 
 /// What is told to a client.
 #[derive(Drop)]

@@ -1,0 +1,9 @@
+pub mod Prefixes
+pub mod Ending
+pub mod Working
+pub mod Rounding
+pub mod Pumping
+pub mod Later
+pub mod Owning
+pub mod Draining
+pub mod Drains
