@@ -1,5 +1,5 @@
 -- What a round leaves to the owner of a book.
-use Rattle.std.proofs.Common.{◌≡◌, ℕ, ◌<◌, ◌≤◌, Bool, true, false, List, [], ◌∷◌, ◌++◌, refl, ap, sym, ◌∙◌, Ok}
+use Rattle.std.proofs.Common.{◌≡◌, ℕ, ◌<◌, ◌≤◌, Bool, true, false, List, [], ◌∷◌, ◌++◌, arith, refl, ap, sym, ◌∙◌, Ok}
 use Rattle.std.specs.Prelude.{fold}
 use Rattle.std.proofs.lemmas.List.Sums.{fold-append}
 use Rattle.cluster_json.specs.File.{Meaning}
@@ -7,7 +7,7 @@ use Rattle.exec_terms.specs.declared.replies.Given.{Given}
 use Rattle.core_terms.specs.Ends.{Ends, Works}
 use Rattle.core_terms.specs.Input.{IsInput}
 use Rattle.core_terms.specs.Problem.{ProblemView}
-use Rattle.core_terms.specs.State.{Core, opening_of}
+use Rattle.core_terms.specs.State.{Core, Desk, opening_of}
 use Rattle.core_terms.specs.Step.{reply_of, next}
 use Rattle.core_terms.specs.History.{AreLegal, is_refusal, state_after}
 use Rattle.core_terms.specs.Sound.{IsSound}
@@ -52,7 +52,7 @@ work_of (reply.Work g) h = (g, refl)
 work_of _ h = absurd h
 
 job_of : (r : Reply) → IsJob r → (t : ℕ) × ((p : ProblemView) × (r ≡ reply.Job t p))
-job_of (reply.Job t p) h = (t, p, refl)
+job_of (reply.Job t p) h = (t, (p, refl))
 job_of _ h = absurd h
 
 module _ (file : Meaning) (input : IsInput file) (refusals : RefusalsKeepState) where
@@ -100,8 +100,16 @@ module _ (file : Meaning) (input : IsInput file) (refusals : RefusalsKeepState) 
         let same : state_after file (j ++ e ∷ []) ≡ state_after file j = one e ∙ look.0 in
         let rest = idle_refuses (reply_of file (state_after file j) event.Take) (rw (same, h.1.0) at h.1.1) in
         let still : next file (state_after file j) event.Take ≡ state_after file j = refusals file (state_after file j) event.Take rest.0 in
-        rw (after_all file j (e ∷ d ∷ []), look.0, h.1.0, still) (law file (state_after file j) sound q look.1 rest.1)
+        let stays : state_after file (j ++ e ∷ d ∷ []) ≡ state_after file j = after_all file j (e ∷ d ∷ []) ∙ (ap (λ u. next file u d) look.0 ∙ (ap (λ x. next file (state_after file j) x) h.1.0 ∙ still)) in
+        rw stays (law file (state_after file j) sound q look.1 rest.1)
     idled law seen (e ∷ d ∷ f ∷ es) q h = absurd h.1.2
+
+-- nothing is out behind a round, where nothing was before it
+pub quiet_worked : (d u : Desk) → IsLess d u → IsQuiet d → IsQuiet u
+quiet_worked d u h q = record { leases = omega (arith, h.leases, q.leases); tickets = omega (arith, h.tickets, q.tickets) }
+
+pub quiet_planned : (d u : Desk) → IsPlanned d u → IsQuiet d → IsQuiet u
+quiet_planned d u h q = record { leases = omega (arith, h.leases, q.leases); tickets = omega (arith, h.tickets, q.tickets) }
 
 -- so in the words of a book
 module _ {A : Type 0} (b c : BookView A) (k l : Copies) (input : IsInput b.file) (legal : AreLegal b.journal) (same : c.file ≡ b.file) (histories : HistoriesAreSound) (refusals : RefusalsKeepState) where

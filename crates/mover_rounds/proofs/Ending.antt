@@ -52,6 +52,14 @@ pub cause_earlier : (v u w : Known) (f : StepFault) → u.rules ≡ v.rules → 
 cause_earlier v u w (AdminFault n) e p b c = (c.0, subst (λ x. HasRisen x w.blamed) b c.1, record { history = c.2.history; longer = prefix_trans v.seen u.seen c.2.history p c.2.longer; saw = c.2.saw; unfinished = ap (λ r. r.unfinished c.2.history) (sym e) ∙ c.2.unfinished })
 cause_earlier v u w Memory e p b c = tt
 
+-- and of one behind an entry
+pub cause_behind : (v u w : Known) (e : Event) (r : Reply) (f : StepFault) → HasAsked v u e r → IsCause u w f → IsCause v w f
+cause_behind v u w e r f h c = cause_earlier v u w f h.rules (prefix_twice v.seen h.between (e ∷ []) u.seen h.seen) h.blamed c
+
+pub causes_behind : {F : Type 0} (v u w : Known) (e : Event) (r : Reply) (o : Result F StepFault) → HasAsked v u e r → IfErr o (IsCause u w) → IfErr o (IsCause v w)
+causes_behind v u w e r (Ok x) h c = tt
+causes_behind v u w e r (Err f) h c = cause_behind v u w e r f h c
+
 until_returned : (rules : Rules) (seen from : List Event) (back : Event) (made : List Entry) → IsReturned rules seen from back made → IsPrefix from seen → IsPrefix from (until made seen)
 until_returned rules seen from back [] r p = p
 until_returned rules seen from back (y ∷ []) r p = r.1

@@ -6,4 +6,4 @@ pub mod Pumping
 pub mod Later
 pub mod Owning
 pub mod Draining
-pub mod Drains
+pub mod Behind

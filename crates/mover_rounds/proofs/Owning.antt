@@ -1,16 +1,25 @@
 -- What a step of an owned book tells of its owner.
-use Rattle.std.proofs.Common.{◌≡◌, ℕ, ◌+◌, ◌-◌, ◌^◌, ◌≤◌, ◌<◌, min, Bool, true, false, List, [], ◌∷◌, ◌++◌, cond, refl, ap, sym, ◌∙◌, subst, append_assoc, append-nil, arith, cases_lt, ◌⊎◌, inl, inr}
-use mathlib.Core.List.{IsPrefix}
+use Rattle.std.proofs.Common.{◌≡◌, ℕ, ◌+◌, ◌-◌, ◌^◌, ◌≤◌, ◌<◌, min, Bool, true, false, List, [], ◌∷◌, ◌++◌, cond, refl, ap, sym, ◌∙◌, append_assoc, append-nil, arith}
+use Rattle.std.specs.Prelude.{Option, Some, None, Result, Ok, Err, OnOk, OnErr, IfOk, IfErr}
+use Rattle.std.specs.List.{list_any}
 use Rattle.cc_base.specs.Outside.{HasRisen}
-use Rattle.core_terms.specs.Faults.{IsCause}
-use Rattle.core_terms.specs.History.{is_sure_after, is_unfinished_after}
+use Rattle.cluster_json.specs.File.{Meaning}
+use Rattle.exec_terms.specs.Machine.{next_work}
+use Rattle.exec_terms.specs.declared.replies.Given.{Given}
+use Rattle.exec_terms.specs.declared.replies.Idle.{Idle}
+use Rattle.core_terms.specs.Jobs.{plans_execution}
+use Rattle.core_terms.specs.Plans.{first_waiting, reply_take_job}
+use Rattle.core_terms.specs.State.{Core, Desk, Moment, moment_of}
+use Rattle.core_terms.specs.Works.{take_told}
 use Rattle.core_terms.specs.Step.{reply_of}
 use Rattle.core_terms.specs.declared.events.Event.{Event}
+use Rattle.core_terms.specs.declared.events.Event.TheVariants as event
 use Rattle.core_terms.specs.declared.faults.StepFault.{StepFault}
 use Rattle.core_terms.specs.declared.faults.StepFault.TheVariants.{AdminFault, Memory}
 use Rattle.core_terms.specs.declared.replies.Reply.{Reply}
 use Rattle.control_core.specs.Books.{BookView, IsStepFault, one_more, state_of}
 use Rattle.mover_rounds.specs.Asked.{Entry, Known, HasAsked, IsUnasked, IsAskFault, core_rules, entries_from}
+use Rattle.mover_rounds.specs.Jobs.{Fits, FitsJob, FitsWork}
 use Rattle.mover_rounds.specs.Owned.{IsSince, known_by_owner}
 
 -- the entries of a journal that grew
@@ -19,6 +28,20 @@ entries_append front [] t = ap (λ (y : List Event). entries_from y t) (sym (app
 entries_append front (x ∷ h) t =
     let first : List Entry → List Entry = λ y. record { before = front; event = x } ∷ y in
     ap first (entries_append (front ++ x ∷ []) h t ∙ ap (λ (y : List Event). entries_from (front ++ x ∷ []) h ++ entries_from y t) (append_assoc front (x ∷ []) h))
+
+-- the replies have their forms
+fits_job : (now : Moment) (d : Desk) (o : Option ℕ) → FitsJob (reply_take_job now d o)
+fits_job now d None = tt
+fits_job now d (Some i) = tt
+
+fits_work : (p b : Bool) (r : Result Given Idle) → FitsWork (take_told p b r)
+fits_work p b (Ok g) = tt
+fits_work p b (Err why) = tt
+
+replies_fit : (file : Meaning) (s : Core) (e : Event) → Fits e (reply_of file s e)
+replies_fit file s event.PlanTake = fits_job (moment_of file s) s.desk (first_waiting s.desk)
+replies_fit file s event.Take = fits_work (list_any plans_execution s.desk.tasks) s.desk.closing (next_work s.desk.exec)
+replies_fit file s _ = tt
 
 module _ {A : Type 0} (faults : A → ℕ) (b c : BookView A) (e : Event) where
   pub owner_asked : (r : Reply) → c.file ≡ b.file → c.journal ≡ b.journal ++ e ∷ [] → r ≡ reply_of b.file (state_of b) e → c.failures ≡ b.failures → HasAsked (known_by_owner b) (known_by_owner c) e r
@@ -44,40 +67,42 @@ module _ {A : Type 0} (faults : A → ℕ) (b c : BookView A) (e : Event) where
   }
 
   -- the book after an entry, and after a fault
-  pub since_entry : c.file ≡ b.file → c.settled ≡ b.settled → faults b.admin ≤ faults c.admin → (c.failures ≡ b.failures) × (c.late ≡ b.late) → IsSince faults b c
+  since_entry : c.file ≡ b.file → c.settled ≡ b.settled → faults b.admin ≤ faults c.admin → (c.failures ≡ b.failures) × (c.late ≡ b.late) → IsSince faults b c
   since_entry file settled later h = record {
     file = file; settled = settled; later = later;
-    more = omega (arith, h.0); late_more = omega (arith, h.1);
     risen = λ l. absurd (omega (arith, h.0, l));
+    late_stays = λ l. omega (arith, h.1, l);
     late = λ s l. absurd (omega (arith, h.0, l));
   }
 
-  late_after : (s : Bool) → c.late ≡ cond s (one_more b.late) b.late → b.late ≤ c.late
-  late_after true h = omega (arith, h)
-  late_after false h = omega (arith, h)
+  late_after : (s : Bool) → c.late ≡ cond s (one_more b.late) b.late → 1 ≤ b.late → 1 ≤ c.late
+  late_after true h l = omega (arith, h)
+  late_after false h l = omega (arith, h, l)
 
-  pub since_fault : (f : StepFault) → c.file ≡ b.file → c.settled ≡ b.settled → faults b.admin ≤ faults c.admin → IsStepFault faults b e c f → IsSince faults b c
+  since_fault : (f : StepFault) → c.file ≡ b.file → c.settled ≡ b.settled → faults b.admin ≤ faults c.admin → IsStepFault faults b e c f → IsSince faults b c
   since_fault (AdminFault n) file settled later h = record {
     file = file; settled = settled; later = later;
-    more = omega (arith, h.3); late_more = late_after b.settled h.4;
     risen = λ l. h.1;
+    late_stays = late_after b.settled h.4;
     late = λ s l. let k : c.late ≡ one_more b.late = rw s at h.4 in omega (arith, k);
   }
   since_fault Memory file settled later h = since_entry file settled later (h.1, h.2)
 
-pub since_itself : {A : Type 0} (faults : A → ℕ) (b : BookView A) → IsSince faults b b
-since_itself faults b = record { file = refl; settled = refl; later = omega arith; more = omega arith; late_more = omega arith; risen = λ l. absurd (omega (arith, l)); late = λ s l. absurd (omega (arith, l)) }
+  pub since_step : (r : Result Reply (StepFault × Event)) → c.file ≡ b.file → c.settled ≡ b.settled → faults b.admin ≤ faults c.admin → OnOk r ((c.failures ≡ b.failures) × (c.late ≡ b.late))
+      → IfErr r (λ x. IsStepFault faults b e c x.0) → IsSince faults b c
+  since_step (Ok y) file settled later k x = since_entry file settled later k
+  since_step (Err y) file settled later k x = since_fault y.0 file settled later x
 
-pub since_on : {A : Type 0} (faults : A → ℕ) (b c d : BookView A) → IsSince faults b c → IsSince faults c d → IsSince faults b d
-since_on faults b c d p q = record {
-  file = q.file ∙ p.file; settled = q.settled ∙ p.settled;
-  later = omega (arith, p.later, q.later); more = omega (arith, p.more, q.more); late_more = omega (arith, p.late_more, q.late_more);
-  risen = λ l. elim (cases_lt b.failures c.failures) [
-    | inl m ↦ let h = p.risen m in omega (arith, h, q.later)
-    | inr m ↦ let h = q.risen (omega (arith, l, m)) in omega (arith, h, p.later)
-  ];
-  late = λ s l. elim (cases_lt b.failures c.failures) [
-    | inl m ↦ let h = p.late s m in omega (arith, h, q.late_more)
-    | inr m ↦ q.late (p.settled ∙ s) (omega (arith, l, m))
-  ];
-}
+  pub asked_step : (r : Result Reply (StepFault × Event)) → c.file ≡ b.file → OnOk r (c.journal ≡ b.journal ++ e ∷ []) → IfOk r (λ y. y ≡ reply_of b.file (state_of b) e) → OnOk r ((c.failures ≡ b.failures) × (c.late ≡ b.late))
+      → IfOk r (HasAsked (known_by_owner b) (known_by_owner c) e)
+  asked_step (Ok y) file grew is k = owner_asked y file grew is k.0
+  asked_step (Err y) file grew is k = tt
+
+  pub unasked_step : (r : Result Reply (StepFault × Event)) → c.file ≡ b.file → OnErr r (c.journal ≡ b.journal) → IfErr r (λ x. IsStepFault faults b e c x.0)
+      → IfErr r (λ x. IsUnasked (known_by_owner b) (known_by_owner c) e x.0)
+  unasked_step (Ok y) file same x = tt
+  unasked_step (Err y) file same x = owner_unasked y.0 file same x
+
+  pub fits_step : (r : Result Reply (StepFault × Event)) → IfOk r (λ y. y ≡ reply_of b.file (state_of b) e) → IfOk r (Fits e)
+  fits_step (Ok y) is = rw is (replies_fit b.file (state_of b) e)
+  fits_step (Err y) is = tt

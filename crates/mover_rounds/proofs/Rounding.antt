@@ -114,7 +114,15 @@ job_undone v u w t p k a e =
     }
 
 -- a mover's round behind a look
-lost_behind : (r : Rules) (seen : List Event) (x : Entry) → x.event ≡ event.PlanTake → IsNoJob (reply_to r x) → (o : Result Found StepFault) (m : List Entry) (c : List ChunkCopy) → IsTaken r seen o m c → IsMade r seen o (x ∷ m) c
+lost_behind : (r : Rules) (seen : List Event) (x : Entry) (m : List Entry) (c : List ChunkCopy) → copy_of x.event ≡ [] → ((c ≡ copies_of m) ⊎ LostIn r seen m c) → (c ≡ copies_of (x ∷ m)) ⊎ LostIn r seen (x ∷ m) c
+lost_behind r seen x m c none (inl h) = inl (h ∙ sym (ap (λ y. y ++ copies_of m) none))
+lost_behind r seen x m c none (inr h) = inr (record { entry = h.entry; front = x ∷ h.front; back = h.back; among = ap (λ y. x ∷ y) h.among; lost = h.lost })
+
+no_mover_look : (r : Rules) (seen : List Event) (m : List Entry) → IsWorkRound r seen look m → ⊥
+no_mover_look r seen [] h = h
+no_mover_look r seen (x ∷ xs) h = h.2
+
+behind : (r : Rules) (seen : List Event) (x : Entry) → x.event ≡ event.PlanTake → IsNoJob (reply_to r x) → (o : Result Found StepFault) (m : List Entry) (c : List ChunkCopy) → IsTaken r seen o m c → IsMade r seen o (x ∷ m) c
 behind r seen x e n (Ok Planned) m c h = absurd h
 behind r seen x e n (Ok Worked) m c h = (((e, n), h.0), h.1 ∙ sym (ap (λ y. copy_of y ++ copies_of m) e))
 behind r seen x e n (Ok (Idle why closing)) m c h = (((e, n), h.0), h.1 ∙ sym (ap (λ y. copy_of y ++ copies_of m) e))

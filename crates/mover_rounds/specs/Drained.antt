@@ -9,8 +9,8 @@ use Rattle.core_terms.specs.declared.faults.StepFault.TheVariants.{AdminFault, M
 use Rattle.mover_rounds.specs.Asked.{Rules, Entry, Known}
 use Rattle.mover_rounds.specs.Rounds.{IsLookedRound, IsRound, idle}
 use Rattle.mover_rounds.specs.Made.{AreDone, AreRounds, Copies, HasMade, IsBroken, IsCause, IsRoundMade}
-use Rattle.mover_rounds.specs.declared.drain.DrainEnd.{DrainEnd}
-use Rattle.mover_rounds.specs.declared.drain.DrainEnd.TheVariants as drain
+use Rattle.mover_rounds.specs.declared.drains.DrainEnd.{DrainEnd}
+use Rattle.mover_rounds.specs.declared.drains.DrainEnd.TheVariants as drain
 use Rattle.mover_rounds.specs.declared.round.Found.{Found}
 use Rattle.mover_rounds.specs.declared.round.Found.TheVariants.{Planned, Worked, Idle}
 

@@ -2,19 +2,19 @@
 #![tactic(auto)]
 
 mod asker;
-mod drain;
+mod drains;
 mod ends;
 mod owner;
-mod pump;
+mod pumps;
 mod round;
 mod takes;
 mod work;
 
 pub use asker::Asker;
 pub use core_terms::{PumpEnd, StepFault};
-pub use drain::{DrainEnd, drain};
+pub use drains::{DrainEnd, drain};
 pub use ends::{end_with, give_back, tell};
-pub use pump::pump;
+pub use pumps::pump;
 pub use round::{Found, one_round, take_work};
 pub use takes::{NoWork, ToPlan, ask_job, ask_work};
 pub use work::{copy_work, do_job, do_work};

@@ -7,8 +7,8 @@ use control_core::Book;
 use core_terms::{Event, Reply, StepFault};
 
 impl<A: Admin> Asker for Book<A> {
-    ghost use Rattle.mover_rounds.proofs.Owning.{since_itself, since_on};
     ghost use Rattle.mover_rounds.specs.Owned.{IsSince, known_by_owner};
+    ghost use Rattle.mover_rounds.specs.Since.{since_itself, since_on};
 
     ghost known = { λ b. known_by_owner b };
 

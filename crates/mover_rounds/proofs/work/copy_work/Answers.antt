@@ -15,4 +15,4 @@ returns-in-Err-Failed-clause-worked g c =
         (ap (is_for ForCopy) c.requires, refl) refl c.in-Err-Failed.ensures.failed c.copy_chunk.ensures.later (c.copy_chunk.ensures.cause (c.in-Err-Failed.is ∙ ap Err c.in-Err-Failed.field-0-is)) e.added e.failed
 
 pub returns-in-Err-Memory-clause-worked : goal.returns-in-Err-Memory-clause-worked
-returns-in-Err-Memory-clause-worked g c = worked_back _ _ c.args.given (copier_of g.K.Copier.copies g.K.Copier.faults c.args.copier.now) (copier_of g.K.Copier.copies g.K.Copier.faults c.copy_chunk.new.copier) c.give_back.ensures c.in-Err-Memory.ensures.failed c.copy_chunk.ensures.later
+returns-in-Err-Memory-clause-worked g c = worked_back _ _ c.args.given (copier_of g.K.Copier.copies g.K.Copier.faults c.args.copier.now) (copier_of g.K.Copier.copies g.K.Copier.faults c.copy_chunk.new.copier) c.give_back.ensures.returned c.in-Err-Memory.ensures.failed c.copy_chunk.ensures.later

@@ -9,7 +9,7 @@ ghost use Rattle.mover_rounds.specs.Owned.{IsSince, known_by_owner};
 use crate::round::{Found, one_round};
 use cluster_gate::{Admin, Copier};
 use control_core::Book;
-use core_laws::{every_history, every_round};
+use core_laws::{every_event, every_history, every_round};
 use core_terms::StepFault;
 use std::alloc::Global;
 
@@ -38,6 +38,7 @@ fn work<A: Admin, K: Copier>(
     ensures kept { OnOk result (book.new.failures ≡ book.old.failures) }
 {
     every_history();
+    every_event();
     every_round();
     loop {
         let _input = book.journal();
