@@ -27,15 +27,15 @@ use Rattle.mover_rounds.specs.Owned.{known_by_owner}
 use Rattle.mover_rounds.specs.declared.round.Found.TheVariants.{Planned, Worked, Idle}
 use Rattle.mover_rounds.proofs.Owning.{entries_append}
 
-cancel : {X : Type 0} (xs ys zs : List X) → xs ++ ys ≡ xs ++ zs → ys ≡ zs
+pub cancel : {X : Type 0} (xs ys zs : List X) → xs ++ ys ≡ xs ++ zs → ys ≡ zs
 cancel [] ys zs e = e
 cancel (x ∷ xs) ys zs e = cancel xs ys zs cc
 
 -- the entries that were added are those of the events that were
-made_is : (j k t : List Event) (made : List Entry) → j ++ t ≡ k → entries_from [] k ≡ entries_from [] j ++ made → made ≡ entries_from j t
+pub made_is : (j k t : List Event) (made : List Entry) → j ++ t ≡ k → entries_from [] k ≡ entries_from [] j ++ made → made ≡ entries_from j t
 made_is j k t made grew own = cancel (entries_from [] j) made (entries_from j t) (sym own ∙ (ap (λ z. entries_from [] z) (sym grew) ∙ entries_append [] j t))
 
-after_all : (file : Meaning) (j t : List Event) → state_after file (j ++ t) ≡ fold (next file) (state_after file j) t
+pub after_all : (file : Meaning) (j t : List Event) → state_after file (j ++ t) ≡ fold (next file) (state_after file j) t
 unfolding state_after
 after_all file j t = fold-append (next file) (opening_of file) j t
 

@@ -67,7 +67,7 @@ until_later (y ∷ ys) s t p = prefix_self y.before
 
 lost_later : (r : Rules) (s t : List Event) → IsPrefix s t → (m : List Entry) (c : List ChunkCopy) → (c ≡ copies_of m) ⊎ LostIn r s m c → (c ≡ copies_of m) ⊎ LostIn r t m c
 lost_later r s t p m c (inl h) = inl h
-lost_later r s t p m c (inr h) = inr (record { entry = h.entry; front = h.front; back = h.back; among = h.among; lost = lost_copy_later r (until h.back s) (until h.back t) (until_later h.back s t p) (through h.entry) (reply_to r h.entry) c h.lost })
+lost_later r s t p m c (inr h) = inr (record { entry = h.entry; front = h.front; back = h.back; among = h.among; took = h.took; lost = lost_copy_later r (until h.back s) (until h.back t) (until_later h.back s t p) (through h.entry) (reply_to r h.entry) c h.lost })
 
 broken_later : (r : Rules) (s t : List Event) → IsPrefix s t → (m : List Entry) (c : List ChunkCopy) → IsBroken (IsRound r s) r s m c → IsBroken (IsRound r t) r t m c
 broken_later r s t p m c (inl h) = inl h

@@ -7,3 +7,4 @@ pub mod Later
 pub mod Owning
 pub mod Draining
 pub mod Behind
+pub mod Exact

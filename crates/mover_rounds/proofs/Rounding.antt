@@ -44,7 +44,7 @@ lost_in : (v u w : Known) (g : Given) (a : HasAsked v u event.Take (reply.Work g
 lost_in v u w g a m c (inl h) = inl h
 lost_in v u w g a m c (inr h) = inr (record {
   entry = record { before = v.seen ++ a.between; event = event.Take };
-  front = []; back = m; among = refl;
+  front = []; back = m; among = refl; took = refl;
   lost = lost_moved u.rules v.rules (until m w.seen) u.seen ((v.seen ++ a.between) ++ event.Take ∷ []) (reply.Work g) (v.rules.reply (v.seen ++ a.between) event.Take) c a.rules a.seen a.replied h;
 })
 
@@ -116,7 +116,7 @@ job_undone v u w t p k a e =
 -- a mover's round behind a look
 lost_behind : (r : Rules) (seen : List Event) (x : Entry) (m : List Entry) (c : List ChunkCopy) → copy_of x.event ≡ [] → ((c ≡ copies_of m) ⊎ LostIn r seen m c) → (c ≡ copies_of (x ∷ m)) ⊎ LostIn r seen (x ∷ m) c
 lost_behind r seen x m c none (inl h) = inl (h ∙ sym (ap (λ y. y ++ copies_of m) none))
-lost_behind r seen x m c none (inr h) = inr (record { entry = h.entry; front = x ∷ h.front; back = h.back; among = ap (λ y. x ∷ y) h.among; lost = h.lost })
+lost_behind r seen x m c none (inr h) = inr (record { entry = h.entry; front = x ∷ h.front; back = h.back; among = ap (λ y. x ∷ y) h.among; took = h.took; lost = h.lost })
 
 no_mover_look : (r : Rules) (seen : List Event) (m : List Entry) → IsWorkRound r seen look m → ⊥
 no_mover_look r seen [] h = h

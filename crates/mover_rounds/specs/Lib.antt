@@ -5,3 +5,4 @@ pub mod Made
 pub mod Owned
 pub mod Drained
 pub mod Since
+pub mod Exact

@@ -152,6 +152,7 @@ pub record LostIn (rules : Rules) (seen : List Event) (made : List Entry) (copie
   pub front : List Entry
   pub back : List Entry
   pub among : made ≡ front ++ entry ∷ back
+  pub took : entry.event ≡ event.Take
   pub lost : IsLostCopy rules (until back seen) (through entry) (reply_to rules entry) copies
 
 -- entries and copies, of which something holds, were added

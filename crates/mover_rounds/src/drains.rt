@@ -3,6 +3,7 @@ ghost use Rattle.std.specs.Prelude.{◌≡◌, IfOk, IfErr, OnOk};
 ghost use Rattle.control_core.specs.Books.{state_of};
 ghost use Rattle.core_laws.specs.Alone.{IsDone, IsQuiet};
 ghost use Rattle.mover_rounds.specs.Drained.{HasDrained, HasFound, IsDrainCause, IsFoundBy};
+ghost use Rattle.mover_rounds.specs.Exact.{HasDrainedAlone};
 ghost use Rattle.mover_rounds.specs.Made.{IsCause, copier_of};
 ghost use Rattle.mover_rounds.specs.Owned.{IsSince, known_by_owner};
 
@@ -51,8 +52,8 @@ fn work<A: Admin, K: Copier>(
     }
 }
 
-/// Makes rounds until no task and no job is unfinished. It ends, since each round leaves less to do.
-pub fn drain<A: Admin, K: Copier>(alloc: Global, book: &mut Book<A>, copier: &mut K) -> DrainEnd
+// Makes rounds until no task and no job is unfinished, or one ends in an error.
+fn rounds<A: Admin, K: Copier>(alloc: Global, book: &mut Book<A>, copier: &mut K) -> DrainEnd
     requires { IsQuiet (state_of book.old).desk }
     ensures since { IsSince A.faults book.old book.new }
     ensures rounds { HasDrained (known_by_owner book.old) (known_by_owner book.new) (copier_of K.copies K.faults copier.old) (copier_of K.copies K.faults copier.new) result }
@@ -68,4 +69,21 @@ pub fn drain<A: Admin, K: Copier>(alloc: Global, book: &mut Book<A>, copier: &mu
             Err(StepFault::Memory) => return DrainEnd::Memory,
         }
     }
+}
+
+/// Makes rounds until no task and no job is unfinished. It ends, since each round leaves less to do. The copies that it makes are
+/// just those that its entries name.
+pub fn drain<A: Admin, K: Copier>(alloc: Global, book: &mut Book<A>, copier: &mut K) -> DrainEnd
+    requires { IsQuiet (state_of book.old).desk }
+    ensures since { IsSince A.faults book.old book.new }
+    ensures rounds { HasDrainedAlone (known_by_owner book.old) (known_by_owner book.new) (copier_of K.copies K.faults copier.old) (copier_of K.copies K.faults copier.new) result }
+    ensures drained { result ≡ DrainEnd.Drained → IsDone (state_of book.new).desk }
+    ensures cause { IsDrainCause (known_by_owner book.old) (known_by_owner book.new) result }
+{
+    every_history();
+    every_round();
+    let _input = book.journal();
+    let end = rounds(alloc, book, copier);
+    let _legal = book.journal();
+    end
 }

@@ -14,7 +14,7 @@ pub use asker::Asker;
 pub use core_terms::{PumpEnd, StepFault};
 pub use drains::{DrainEnd, drain};
 pub use ends::{end_with, give_back, tell};
-pub use pumps::pump;
+pub use pumps::{pump, pump_book};
 pub use round::{Found, one_round, take_work};
 pub use takes::{NoWork, ToPlan, ask_job, ask_work};
 pub use work::{copy_work, do_job, do_work};

@@ -1,10 +1,14 @@
 // Rounds, one after another.
 ghost use Rattle.std.specs.Prelude.{◌≡◌};
+ghost use Rattle.mover_rounds.specs.Exact.{HasPumpedAlone};
 ghost use Rattle.mover_rounds.specs.Made.{HasPumped, IsPumpCause, copier_of};
+ghost use Rattle.mover_rounds.specs.Owned.{IsSince, known_by_owner};
 
 use crate::asker::Asker;
 use crate::round::{Found, one_round};
-use cluster_gate::Copier;
+use cluster_gate::{Admin, Copier};
+use control_core::Book;
+use core_laws::{every_history, every_round};
 use core_terms::{PumpEnd, StepFault};
 use std::alloc::Global;
 
@@ -30,4 +34,23 @@ pub fn pump<X: Asker, K: Copier>(
         }
     }
     PumpEnd::Done { done, idle: false }
+}
+
+/// The same for the owner of a book. The copies that it makes are just those that its entries name.
+pub fn pump_book<A: Admin, K: Copier>(
+    alloc: Global,
+    book: &mut Book<A>,
+    copier: &mut K,
+    steps: u32,
+) -> PumpEnd
+    ensures since { IsSince A.faults book.old book.new }
+    ensures pumped { HasPumpedAlone (known_by_owner book.old) (known_by_owner book.new) (copier_of K.copies K.faults copier.old) (copier_of K.copies K.faults copier.new) steps result }
+    ensures cause { IsPumpCause (known_by_owner book.old) (known_by_owner book.new) result }
+{
+    every_history();
+    every_round();
+    let _input = book.journal();
+    let end = pump(alloc, book, copier, steps);
+    let _legal = book.journal();
+    end
 }

@@ -5,7 +5,7 @@ use Rattle.mover_rounds.specs.Drained.{AreSome}
 use Rattle.mover_rounds.specs.Made.{HasMade, copier_of}
 use Rattle.mover_rounds.specs.Owned.{IsSince, known_by_owner}
 use Rattle.mover_rounds.specs.Asked.{core_rules}
-use Rattle.mover_rounds.proofs.drains.drain.Given as goal
+use Rattle.mover_rounds.proofs.drains.rounds.Given as goal
 
 abbrev pub invariant-loop-number : goal.invariant-loop-number
 invariant-loop-number g l = record {
