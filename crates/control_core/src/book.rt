@@ -1,5 +1,5 @@
 // The book.
-ghost use Rattle.std.specs.Prelude.{◌≡◌, ◌++◌, ◌∷◌, ◌≤◌, [], true, IfOk, IfErr, IfSome, MatchResult, OnOk, OnErr};
+ghost use Rattle.std.specs.Prelude.{◌≡◌, ◌↔◌, ◌++◌, ◌∷◌, ◌≤◌, [], true, IsTrue, IfOk, IfErr, IfSome, MatchResult, OnOk, OnErr};
 ghost use Rattle.std.specs.List.{list_any};
 ghost use Rattle.cc_base.specs.Outside.{HasRisen};
 ghost use Rattle.cluster_gate.specs.Lists.{installed};
@@ -8,6 +8,7 @@ ghost use Rattle.cluster_json.specs.Views.{file_seen};
 ghost use Rattle.core_terms.specs.Step.{reply_of};
 ghost use Rattle.core_terms.specs.History.{AreLegal};
 ghost use Rattle.core_terms.specs.Input.{IsInput};
+ghost use Rattle.core_laws.specs.Alone.{IsQuiet};
 ghost use Rattle.core_laws.specs.Events.{is_close};
 ghost use Rattle.exec_terms.specs.Machine.{lists_now};
 
@@ -144,6 +145,13 @@ impl<A: Admin> Book<A> {
         ensures { self.new ≡ record self.old { settled = true } }
     {
         self.settled = true;
+    }
+
+    /// Whether no lease and no ticket is out.
+    pub fn is_quiet(&self) -> bool
+        ensures { IsTrue result ↔ IsQuiet (state_of self.now).desk }
+    {
+        self.machine.desk.is_quiet()
     }
 
     /// How many partitions the cluster has, and the admin with it.

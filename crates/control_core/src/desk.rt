@@ -1,11 +1,12 @@
 // All of the core's state but the samples.
-ghost use Rattle.std.specs.Prelude.{◌≡◌, ◌<◌, ◌&&◌, ◌==◌, [], false, true, length, not, slice_set, if◌then◌else◌};
-ghost use Rattle.std.specs.List.{filter, list_all, position};
+ghost use Rattle.std.specs.Prelude.{◌≡◌, ◌↔◌, ◌<◌, IsTrue, is_some, ◌&&◌, ◌==◌, [], false, true, length, not, slice_set, if◌then◌else◌};
+ghost use Rattle.std.specs.List.{count_by, filter, list_all, position};
 ghost use Rattle.exec_terms.specs.Words.{is_completed};
 ghost use Rattle.exec_terms.specs.Machine.{any_unfinished};
 ghost use Rattle.core_terms.specs.Jobs.{is_in_execution, user_task_at, with_status};
 ghost use Rattle.user_tasks.specs.Tasks.{is_open};
 ghost use Rattle.core_terms.specs.Works.{closed, execution_ended};
+ghost use Rattle.core_laws.specs.Alone.{IsQuiet};
 
 use crate::places::first_in_execution;
 use core_terms::{Job, Reply};
@@ -53,7 +54,21 @@ fn leave_out(places: &mut Vec<usize>, place: usize)
     places.retain(|i| *i != place);
 }
 
+// How many tickets are out.
+fn tickets_out(jobs: &[Job]) -> usize
+    ensures { result ≡ count_by (λ j. is_some j.ticket) jobs.now }
+{
+    jobs.iter().filter(|job| job.ticket.is_some()).count()
+}
+
 impl Desk {
+    /// Whether no lease and no ticket is out.
+    pub fn is_quiet(&self) -> bool
+        ensures { IsTrue result ↔ IsQuiet self.now }
+    {
+        self.exec.leases_out() == 0 && tickets_out(self.jobs.as_slice()) == 0
+    }
+
     /// The desk of an executor, without user tasks.
     pub fn new(alloc: Global, exec: Exec) -> Desk
         ensures { result ≡ record { exec = exec; tasks = []; jobs = []; tickets = 0; closing = false } }

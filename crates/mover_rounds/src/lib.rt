@@ -8,6 +8,8 @@ mod owner;
 mod pumps;
 mod round;
 mod takes;
+#[cfg(test)]
+mod tests;
 mod work;
 
 pub use asker::Asker;

@@ -68,17 +68,20 @@ const MAX_OPEN: usize = 16;
 #[derive(Drop)]
 pub struct TaskTable {
     tasks: Vec<UserTask>,
+    // how many of them are open
+    open: usize,
 }
 
 impl Model for TaskTable {
-    ghost use Rattle.std.specs.Prelude.{◌<◌, ◌^◌, List, length};
+    ghost use Rattle.std.specs.Prelude.{◌≡◌, ◌<◌, ◌^◌, List, length};
+    ghost use Rattle.user_tasks.specs.Tasks.{open_count};
     ghost use Rattle.user_tasks.specs.declared.table.UserTask.{UserTask};
 
     ghost Value = { List UserTask };
 
     ghost view = { λ t. t.tasks.items };
 
-    ghost invariant = { λ t. length t.tasks.items < 2 ^ 63 };
+    ghost invariant = { λ t. (length t.tasks.items < 2 ^ 63) × (t.open ≡ open_count t.tasks.items) };
 }
 
 // The user task with this number.
@@ -98,6 +101,7 @@ impl TaskTable {
     {
         TaskTable {
             tasks: Vec::new(alloc),
+            open: 0,
         }
     }
 
@@ -109,16 +113,6 @@ impl TaskTable {
         self.tasks.as_slice()
     }
 
-    // How many user tasks are open.
-    fn open(&self) -> usize
-        ensures { result ≡ open_count self.now }
-    {
-        self.tasks
-            .iter()
-            .filter(|task| task.status.is_open())
-            .count()
-    }
-
     /// Makes the request the next user task, which is active, and answers its id. A fault hands the request back and changes
     /// nothing.
     pub fn admit(&mut self, ask: Ask) -> Result<Uuid, (AdmitFault, Ask)>
@@ -128,7 +122,7 @@ impl TaskTable {
         ensures fault { IfErr result (λ e. IsAdmitFault self.old e.0 × (e.1 ≡ ask)) }
         ensures unchanged { OnErr result (self.new ≡ self.old) }
     {
-        if self.open() >= MAX_OPEN {
+        if self.open >= MAX_OPEN {
             return Err((AdmitFault::TooManyActive, ask));
         }
         let task = UserTask {
@@ -136,7 +130,10 @@ impl TaskTable {
             status: Status::Active,
         };
         match self.tasks.push(task) {
-            Ok(()) => Ok(task_id(self.tasks.len() as u64)),
+            Ok(()) => {
+                self.open += 1;
+                Ok(task_id(self.tasks.len() as u64))
+            }
             Err(failed) => Err((AdmitFault::Memory, failed.value.ask)),
         }
     }
@@ -170,7 +167,10 @@ impl TaskTable {
         requires known { number ≤ length self.old }
         ensures { (t : UserTask) × (task_at self.old number ≡ Some t) × (self.new ≡ slice_set self.old (number - 1) (record t { status = status })) }
     {
-        self.tasks[number as usize - 1].status = status;
+        let place = number as usize - 1;
+        let was = usize::from(self.tasks[place].status.is_open());
+        self.tasks[place].status = status;
+        self.open = self.open + usize::from(status.is_open()) - was;
     }
 
     /// How far the user task with this number is, if there is one.

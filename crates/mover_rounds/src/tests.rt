@@ -1,0 +1,199 @@
+// Pumps and drains of a book, whose admin and copier fail where a row says so.
+use super::*;
+use cluster_gate::{FailingAdmin, FailingCopier, MemoryCluster, MemoryCopier};
+use cluster_json::read_cluster;
+use control_core::Book;
+use core_terms::{Event, Reply};
+use std::alloc::Global;
+use std::process::Abort;
+use std::test::Fail;
+use user_tasks::{Ask, ListOf, Op};
+
+const TWO: &str =
+    r#"{"version":1,"brokers":[{"id":0},{"id":1}],"partitions":[{"topic":"t","partition":0,"replicas":[0]}],"config":{"min.valid.partition.ratio":"0"}}"#;
+
+// What is done with the book.
+#[derive(Clone, Copy)]
+enum Step {
+    Pump(u32),
+    Stop(bool),
+    Drain,
+}
+
+// A book whose one job moves a partition from broker 0 to broker 1.
+#[derive(Drop)]
+struct Run {
+    book: Book<FailingAdmin<MemoryCluster>>,
+    copier: FailingCopier<MemoryCopier>,
+}
+
+fn removal(alloc: Global) -> Result<Event, Fail> {
+    let ask = Ask {
+        op: Op::RemoveBroker,
+        brokers: ListOf::new(vec![in alloc; 0u32]?),
+        goals: ListOf::new(Vec::new(alloc)),
+        skip: false,
+        excluded: ListOf::new(Vec::new(alloc)),
+        dryrun: false,
+    };
+    Ok(Event::Submit(ask, None))
+}
+
+fn begun(alloc: Global, admin: &[u64], copier: &[u64]) -> Result<Run, Fail> {
+    let file = read_cluster(alloc, TWO.as_bytes())?;
+    let admin = FailingAdmin::new(MemoryCluster::new(alloc), admin.to_vec(alloc)?);
+    let Ok(mut book) = Book::begin(alloc, file, admin) else {
+        return Err("no book".into());
+    };
+    if book.step(removal(alloc)?).is_err() {
+        return Err("no request".into());
+    }
+    let copier = FailingCopier::new(MemoryCopier::new(alloc), copier.to_vec(alloc)?);
+    Ok(Run { book, copier })
+}
+
+impl Run {
+    // Takes a step, and tells how it ended.
+    fn step(&mut self, rt: &impl Abort, alloc: Global, step: Step) -> Result<String, Fail> {
+        Ok(match step {
+            Step::Pump(steps) => {
+                let end = pump_book(alloc, &mut self.book, &mut self.copier, steps);
+                format!(in alloc; "{end:?}")?
+            }
+            Step::Drain => {
+                assert!(rt; self.book.is_quiet());
+                let end = drain(alloc, &mut self.book, &mut self.copier);
+                format!(in alloc; "{end:?}")?
+            }
+            Step::Stop(force) => match self.book.step(Event::Stop(force)) {
+                Ok(Reply::Stopped(stopped)) => {
+                    format!(in alloc; "{} {}", stopped.aborted, stopped.aborting)?
+                }
+                Ok(_) => String::from_str(alloc, "nothing")?,
+                Err(_) => String::from_str(alloc, "fault")?,
+            },
+        })
+    }
+}
+
+// A run: the calls of the admin and of the copier that fail, the steps with their ends, the list and the entries in the end.
+struct Row {
+    admin: &'static [u64],
+    copier: &'static [u64],
+    steps: &'static [(Step, &'static str)],
+    list: &'static [u32],
+    entries: usize,
+}
+
+const ROWS: [Row; 9] = [
+    Row {
+        admin: &[],
+        copier: &[],
+        steps: &[
+            (Step::Pump(1), "Done { done: 1, idle: false }"),
+            (Step::Pump(9), "Done { done: 2, idle: true }"),
+            (Step::Drain, "Drained"),
+        ],
+        list: &[1],
+        entries: 13,
+    },
+    Row {
+        admin: &[],
+        copier: &[],
+        steps: &[(Step::Drain, "Drained")],
+        list: &[1],
+        entries: 11,
+    },
+    // the first write of the task fails, and the second time doesn't
+    Row {
+        admin: &[2],
+        copier: &[],
+        steps: &[
+            (Step::Pump(9), "AdminFault(1)"),
+            (Step::Drain, "Drained"),
+        ],
+        list: &[1],
+        entries: 12,
+    },
+    // so does its commit
+    Row {
+        admin: &[3],
+        copier: &[],
+        steps: &[(Step::Drain, "AdminFault(1)"), (Step::Drain, "Drained")],
+        list: &[1],
+        entries: 14,
+    },
+    // a copy fails, and the second time doesn't
+    Row {
+        admin: &[],
+        copier: &[1],
+        steps: &[(Step::Pump(9), "Done { done: 4, idle: true }")],
+        list: &[1],
+        entries: 14,
+    },
+    // the third failure dooms the task
+    Row {
+        admin: &[],
+        copier: &[1, 2, 3],
+        steps: &[(Step::Drain, "Drained")],
+        list: &[0],
+        entries: 17,
+    },
+    // a stop by force before the copy, behind it, and behind the commit
+    Row {
+        admin: &[],
+        copier: &[],
+        steps: &[
+            (Step::Pump(1), "Done { done: 1, idle: false }"),
+            (Step::Stop(true), "1 0"),
+            (Step::Drain, "Drained"),
+        ],
+        list: &[0],
+        entries: 6,
+    },
+    Row {
+        admin: &[],
+        copier: &[],
+        steps: &[
+            (Step::Pump(2), "Done { done: 2, idle: false }"),
+            (Step::Stop(true), "0 1"),
+            (Step::Drain, "Drained"),
+        ],
+        list: &[0],
+        entries: 12,
+    },
+    Row {
+        admin: &[],
+        copier: &[],
+        steps: &[
+            (Step::Pump(3), "Done { done: 3, idle: false }"),
+            (Step::Stop(true), "nothing"),
+            (Step::Drain, "Drained"),
+        ],
+        list: &[1],
+        entries: 12,
+    },
+];
+
+fn run_row(rt: &impl Abort, alloc: Global, row: &Row) -> Result<(), Fail> {
+    let mut run = begun(alloc, row.admin, row.copier)?;
+    for (step, wanted) in row.steps {
+        let end = run.step(rt, alloc, *step)?;
+        assert_eq!(rt; end.as_str(), *wanted);
+    }
+    assert!(rt; run.book.parts() > 0);
+    assert_eq!(rt; run.book.admin().inner().list(0), row.list);
+    assert_eq!(rt; run.book.journal().len(), row.entries);
+    Ok(())
+}
+
+#[test]
+fn pumps_and_drains_end_as_their_admin_copier_and_stops_say(
+    rt: HostRuntime,
+) -> Result<(), Fail> {
+    let alloc = rt.alloc();
+    for row in &ROWS {
+        run_row(&rt, alloc, row)?;
+    }
+    Ok(())
+}
