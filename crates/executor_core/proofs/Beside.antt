@@ -16,7 +16,7 @@ use Rattle.exec_terms.specs.Stops.{is_host, marked}
 use Rattle.exec_terms.proofs.Calm.{SameLists}
 use Rattle.cap_ledger.specs.Ledger.{Ledger, knows, gains, differ, HasRoom, IsCounted, IsKnownList, Enters}
 use Rattle.task_planner.specs.declared.slot.Slot.{Slot}
-use Rattle.task_index.specs.Index.{Marks, marks_of, marked_at, no_marks}
+use Rattle.task_index.specs.Index.{Marks}
 use Rattle.task_planner.specs.Queue.{IsListOf, AreListsOf}
 use Rattle.executor_core.specs.Alone.{proposal_of}
 use Rattle.executor_core.specs.Kept.{AreCounts, slot_of, IsFixed, IsKept}

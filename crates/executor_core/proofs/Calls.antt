@@ -24,7 +24,7 @@ use Rattle.exec_terms.proofs.Take.{IsValid-take}
 use Rattle.plan_terms.specs.declared.settings.Caps.{Caps}
 use Rattle.cap_ledger.specs.Ledger.{Ledger, HasRoom, IsCounted, IsKnownList, Enters}
 use Rattle.task_planner.specs.declared.slot.Slot.{Slot}
-use Rattle.task_index.specs.Index.{Marks, marks_of, marked_at, no_marks}
+use Rattle.task_index.specs.Index.{Marks, marks_of, marked_at}
 use Rattle.task_planner.specs.Queue.{no_slot, slot_at, ended}
 use Rattle.executor_core.specs.Kept.{slot_of, IsKept}
 use Rattle.executor_core.proofs.Beside.{fixed-set, counts-same, counts-enter, counts-leave, queue-same, fixed-map, counts-map, fixed-marked, counts-marked, room, counted, known_lists}

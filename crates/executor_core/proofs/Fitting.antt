@@ -28,6 +28,10 @@ list_any-map : {X Y : Type 0} (p : Y → Bool) (f : X → Y) (xs : List X) → l
 list_any-map p f [] = refl
 list_any-map p f (x ∷ xs) = ap (λ (b : Bool). p (f x) || b) (list_any-map p f xs)
 
+-- a task of the queue waits where one is pending
+pub waiting_is : (tasks : List Task) (queue : List Slot) → queue ≡ map slot_of tasks → list_any (λ s. s.waits) queue ≡ list_any (λ t. is_pending t.phase) tasks
+waiting_is tasks queue q = ap (λ (slots : List Slot). list_any (λ s. s.waits) slots) q ∙ list_any-map (λ s. s.waits) slot_of tasks
+
 abbrev one : Bool → ℕ
 one b = cond b 1 0
 

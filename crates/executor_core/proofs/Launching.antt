@@ -23,7 +23,7 @@ use Rattle.exec_terms.proofs.Launch.{length-each_below, get_or-each_below, all_p
 use Rattle.exec_terms.proofs.WorkLeft.{position-None}
 use Rattle.cap_ledger.specs.Ledger.{Ledger, gains, differ, IsEmpty}
 use Rattle.task_planner.specs.declared.slot.Slot.{Slot}
-use Rattle.task_index.specs.Index.{Marks, marks_of, marked_at, no_marks}
+use Rattle.task_index.specs.Index.{Marks, marks_of, no_marks}
 use Rattle.task_planner.specs.Queue.{IsListOf, AreListsOf, waiting}
 use Rattle.executor_core.specs.Alone.{proposal_of}
 use Rattle.executor_core.specs.Kept.{AreCounts, slot_of, IsFixed, unfinished_tasks, IsKept}

@@ -1,9 +1,9 @@
 -- What the index of the tasks says of them, and where they change.
-use Rattle.std.proofs.Common.{◌≡◌, ℕ, ◌+◌, ◌<◌, ◌≤◌, Bool, true, false, ◌&&◌, cond, List, [], ◌∷◌, map, set, length, get_or, replicate, arith, refl, sym, ap, ◌∙◌, zero, suc, count_by, ◌⊎◌, inl, inr}
+use Rattle.std.proofs.Common.{◌≡◌, ℕ, ◌+◌, ◌<◌, ◌≤◌, Bool, true, false, ◌&&◌, cond, List, [], ◌∷◌, map, set, length, get_or, arith, refl, sym, ap, ◌∙◌, zero, suc, count_by, ◌⊎◌, inl, inr}
 use Rattle.std.specs.Prelude.{Option, Some, None, Ok, nat_lt}
 use Rattle.std.specs.List.{position}
 use Rattle.std.proofs.Math.Path.{fun_ext}
-use Rattle.std.proofs.lemmas.Bool.{true≢false, false≢true, false_from_ne_true, lt-ltb, le-ltb, cases_lt}
+use Rattle.std.proofs.lemmas.Bool.{true≢false, false_from_ne_true, lt-ltb, le-ltb, cases_lt}
 use Rattle.std.proofs.lemmas.Option.{none-some, same_Some}
 use Rattle.std.proofs.lemmas.List.{map-set, length-map, get_or_default, get_or_past}
 use Rattle.std.proofs.lemmas.List.Sums.{position_or_len_is}
@@ -18,7 +18,7 @@ use Rattle.exec_terms.specs.declared.replies.Given.{Given}
 use Rattle.exec_terms.specs.Words.{is_aborting, is_in_progress, is_free, has_number, holds, holds_for, needs, next_step}
 use Rattle.exec_terms.specs.Machine.{State, no_task, task_at, may_start, given, or_start, or_step, or_cancel, next_work, with_lease, task_of}
 use Rattle.exec_terms.specs.Leases.{one_failed}
-use Rattle.exec_terms.specs.Stops.{stopped_by, killed_by}
+use Rattle.exec_terms.specs.Stops.{killed_by}
 use Rattle.exec_terms.specs.Valid.{IsValid}
 use Rattle.exec_terms.proofs.WorkLeft.{position-None, same_place, holds_too}
 use Rattle.task_index.specs.Leases.{is_number, lease_at, IsNext}

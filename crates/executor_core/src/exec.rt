@@ -3,10 +3,10 @@ ghost use Rattle.std.specs.Prelude.{◌≡◌, ◌↔◌, ◌+◌, ◌<◌, ◌�
 ghost use Rattle.std.specs.List.{All, list_all, list_any, position};
 ghost use Rattle.plan_terms.specs.Belongs.{distinct};
 ghost use Rattle.plan_terms.specs.Cluster.{has};
-ghost use Rattle.exec_terms.specs.Machine.{next_work, may_start, task_at, any_unfinished, taken, after_take, after_launch, after_caps, first_unfinished, list_now, lists_now};
+ghost use Rattle.exec_terms.specs.Machine.{next_work, idle, may_start, task_at, any_unfinished, taken, after_take, after_launch, after_caps, first_unfinished, list_now, lists_now};
 ghost use Rattle.exec_terms.specs.Leases.{test_lease, end_lease, after_copied, copied_reply, after_copy_failed, copy_failed_reply, after_commit, commit_reply, after_cancel, cancel_reply, give_back_reply, held, held_for};
 ghost use Rattle.exec_terms.specs.Stops.{after_stop, stop_reply, after_kill, kill_reply, has_died};
-ghost use Rattle.exec_terms.specs.Words.{is_aborting, is_in_progress, is_free, is_cancel, holds, holds_for, is_on, is_replica_task, is_unfinished, union_of, list_shown};
+ghost use Rattle.exec_terms.specs.Words.{is_pending, is_aborting, is_in_progress, is_free, is_cancel, holds, holds_for, is_on, is_replica_task, is_unfinished, union_of, list_shown};
 ghost use Rattle.exec_terms.specs.Runs.{new_state, hosts_of, CanLaunch, IsExecuting};
 ghost use Rattle.exec_terms.specs.Settled.{settled, settled_in, settled_lists};
 ghost use Rattle.exec_terms.specs.Tally.{leases_out, phase_counts};
@@ -197,7 +197,27 @@ impl Exec {
         if let Some(i) = self.first_to_start() {
             return Ok(given(tasks, self.leases, i, tasks[i].next_step(), true));
         }
-        Err(scan::idle(tasks))
+        Err(self.idle())
+    }
+
+    // Whether a task waits.
+    fn any_pending(&self) -> bool
+        ensures { result ≡ list_any (λ t. is_pending t.phase) self.now.tasks }
+    {
+        self.queue.any_waits()
+    }
+
+    // Why there is no work.
+    fn idle(&self) -> Idle
+        ensures { result ≡ idle self.now.tasks }
+    {
+        if self.any_pending() {
+            Idle::CapsFull
+        } else if self.is_executing() {
+            Idle::AllLeased
+        } else {
+            Idle::NoExecution
+        }
     }
 
     // The first task that wants its cancel.

@@ -2,10 +2,9 @@
 ghost use Rattle.std.specs.Prelude.{◌≡◌, ◌<◌, ◌≤◌, ◌&&◌, ◌==◌, ℕ, None, IfOk, get_or, length, vec_len};
 ghost use Rattle.std.specs.List.{All, list_any, count_by, position};
 ghost use Rattle.exec_terms.specs.Words.{is_pending, is_in_progress, is_unfinished, is_on, is_replica_task, needs};
-ghost use Rattle.exec_terms.specs.Machine.{idle, any_unfinished};
 ghost use Rattle.exec_terms.specs.Stops.{is_host, has_died};
 
-use exec_terms::{Host, Idle, Task};
+use exec_terms::{Host, Task};
 use plan_terms::Memory;
 use std::alloc::Global;
 
@@ -14,33 +13,6 @@ pub fn first_unfinished(tasks: &[Task]) -> Option<usize>
     ensures { result ≡ position (λ t. is_unfinished t.phase) tasks.now }
 {
     tasks.iter().position(|t| t.phase.is_unfinished())
-}
-
-/// Whether a task waits.
-pub fn any_pending(tasks: &[Task]) -> bool
-    ensures { result ≡ list_any (λ t. is_pending t.phase) tasks.now }
-{
-    tasks.iter().any(|t| t.phase.is_pending())
-}
-
-/// Whether a task has not ended.
-pub fn any_unfinished(tasks: &[Task]) -> bool
-    ensures { result ≡ any_unfinished tasks.now }
-{
-    tasks.iter().any(|t| t.phase.is_unfinished())
-}
-
-/// Why there is no work.
-pub fn idle(tasks: &[Task]) -> Idle
-    ensures { result ≡ idle tasks.now }
-{
-    if any_pending(tasks) {
-        Idle::CapsFull
-    } else if any_unfinished(tasks) {
-        Idle::AllLeased
-    } else {
-        Idle::NoExecution
-    }
 }
 
 /// How many tasks wait.

@@ -1,11 +1,11 @@
 -- The first flag that is up in a tree of flags.
-use Rattle.std.proofs.Common.{◌≡◌, ◌≢◌, ℕ, ◌+◌, ◌-◌, ◌*◌, ◌/◌, ◌%◌, ◌<◌, ◌≤◌, Bool, true, false, ◌||◌, cond, List, [], ◌∷◌, length, get_or, arith, refl, sym, ap, ◌∙◌, ◌⊎◌, inl, inr, zero, suc, Some, None, position}
+use Rattle.std.proofs.Common.{◌≡◌, ℕ, ◌+◌, ◌-◌, ◌*◌, ◌/◌, ◌%◌, ◌<◌, ◌≤◌, Bool, true, false, ◌||◌, cond, List, length, arith, refl, sym, ap, ◌∙◌, ◌⊎◌, inl, inr, zero, suc, Some, None, position}
 use Rattle.std.specs.Prelude.{nat_lt}
 use Rattle.std.specs.List.{position_or_len}
-use Rattle.std.proofs.lemmas.Bool.{cases_eq, cases_lt, or_parts, or_left, or_right, true≢false, false≢true, lt-ltb, le-ltb, false_from_ne_true}
+use Rattle.std.proofs.lemmas.Bool.{cases_eq, cases_lt, or_parts, true≢false, lt-ltb, le-ltb}
 use Rattle.std.proofs.lemmas.List.{get_or_past}
 use Rattle.std.proofs.lemmas.List.Sums.{position_or_len_is}
-use Rattle.task_index.specs.Trees.{level_at, flag_at, pair_at, AreLevels}
+use Rattle.task_index.specs.Trees.{level_at, flag_at, AreLevels}
 
 -- the flag is up, and none before it is
 pub record IsFirst (levels : List (List Bool)) (h place : ℕ) : Type 0 where

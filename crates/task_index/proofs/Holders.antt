@@ -1,13 +1,13 @@
 -- The leases that are out, where one is given or ends.
-use Rattle.std.proofs.Common.{◌≡◌, ◌≢◌, ℕ, ◌+◌, ◌-◌, ◌<◌, ◌≤◌, Bool, true, false, cond, List, [], ◌∷◌, ◌++◌, set, length, get_or, replicate, arith, refl, sym, ap, ◌∙◌, ◌⊎◌, inl, inr, zero, suc, Some, None, Ok, Err, position}
-use Rattle.std.specs.Prelude.{Option, Result, ◌==◌, nat_lt, is_some}
+use Rattle.std.proofs.Common.{◌≡◌, ℕ, ◌+◌, ◌-◌, ◌<◌, ◌≤◌, false, cond, List, [], ◌∷◌, ◌++◌, set, length, get_or, replicate, arith, refl, sym, ap, ◌∙◌, ◌⊎◌, inl, inr, zero, suc, Some, None, position}
+use Rattle.std.specs.Prelude.{Option, is_some}
 use Rattle.std.specs.List.{position_or_len, count_by, remove}
-use Rattle.std.proofs.lemmas.Bool.{cases_eq, cases_lt, eq-eqb, eqb-true, ne_eqb, true≢false, false≢true, lt-ltb, le-ltb, false_from_ne_true}
+use Rattle.std.proofs.lemmas.Bool.{cases_eq, cases_lt, eq-eqb, ne_eqb, lt-ltb, le-ltb}
 use Rattle.std.proofs.lemmas.Option.{none-some, same_Some}
-use Rattle.std.proofs.lemmas.List.{get_or_past, get_or_append_left, get_or_push, length_push, length-set, get_or-set_same, get_or-set_other, get_or-replicate, length-replicate}
+use Rattle.std.proofs.lemmas.List.{get_or_past, get_or_append_left, get_or_push, length_push, get_or-set_same, get_or-set_other, get_or-replicate, length-replicate}
 use Rattle.std.proofs.lemmas.List.Edits.{length-remove, get_or-remove_below, get_or-remove_above}
 use Rattle.std.proofs.lemmas.List.Sums.{sum_by-set, sum_by-cons, position_or_len_is}
-use Rattle.task_index.specs.Leases.{is_number, lease_at, IsNext, IsFiled, AreOut}
+use Rattle.task_index.specs.Leases.{is_number, lease_at, IsFiled, AreOut}
 
 abbrev one : Option ℕ → ℕ
 one o = cond (is_some o) 1 0

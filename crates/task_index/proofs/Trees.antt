@@ -1,8 +1,8 @@
 -- The levels of a tree with no flag up, as they are made.
-use Rattle.std.proofs.Common.{◌≡◌, ◌≢◌, ℕ, ◌+◌, ◌-◌, ◌*◌, ◌/◌, ◌<◌, ◌≤◌, Bool, true, false, ◌||◌, List, [], ◌∷◌, ◌++◌, length, get_or, replicate, arith, refl, sym, ap, ◌∙◌, ◌⊎◌, inl, inr, zero, suc}
+use Rattle.std.proofs.Common.{◌≡◌, ℕ, ◌+◌, ◌-◌, ◌*◌, ◌/◌, ◌<◌, ◌≤◌, Bool, false, List, [], ◌∷◌, ◌++◌, length, get_or, replicate, arith, refl, sym, ◌∙◌, ◌⊎◌, inl, inr, zero, suc}
 use Rattle.std.proofs.lemmas.Bool.{cases_eq, cases_lt}
 use Rattle.std.proofs.lemmas.List.{get_or_past, get_or_append_left, get_or_push, length_push, length-replicate, get_or-replicate}
-use Rattle.task_index.specs.Trees.{level_at, flag_at, pair_at, AreLevels}
+use Rattle.task_index.specs.Trees.{level_at, flag_at, AreLevels}
 
 -- so many levels are made, the last of this width, and no flag is up
 pub record AreMade (flags width : ℕ) (levels : List (List Bool)) : Type 0 where

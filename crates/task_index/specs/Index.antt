@@ -1,10 +1,9 @@
 -- What is known of each task at its place: whether it wants its cancel, whether it may go on, and the number of its lease.
-use Rattle.std.specs.Prelude.{◌≡◌, ℕ, Bool, false, ◌&&◌, List, map, slice_set, length, replicate, Option, None, Some}
+use Rattle.std.specs.Prelude.{◌≡◌, ℕ, Bool, false, ◌&&◌, List, map, slice_set, length, replicate, Option, None}
 use Rattle.std.specs.Option.{option_map}
 use Rattle.exec_terms.specs.Words.{is_aborting, is_in_progress, is_free}
 use Rattle.exec_terms.specs.declared.work.Lease.{Lease}
 use Rattle.exec_terms.specs.declared.task.Task.{Task}
-use Rattle.task_index.specs.Leases.{lease_at}
 
 -- by the places of the tasks
 pub record Marks : Type 0 where

@@ -16,7 +16,7 @@ impl Exec {
             Some(place) => (place, false),
             None => match first_to_start(tasks, &self.caps) {
                 Some(place) => (place, true),
-                None => return Err(scan::idle(tasks)),
+                None => return Err(idle(tasks)),
             },
         };
         let work = if tasks[place].phase.is_aborting() {
@@ -134,4 +134,25 @@ fn removing(tasks: &[Task], broker: u32) -> usize {
         .iter()
         .filter(|t| t.phase.in_flight() && t.removes(broker))
         .count()
+}
+
+// Whether a task waits.
+fn any_pending(tasks: &[Task]) -> bool {
+    tasks.iter().any(|t| t.phase.is_pending())
+}
+
+// Whether a task has not ended.
+fn any_unfinished(tasks: &[Task]) -> bool {
+    tasks.iter().any(|t| t.phase.is_unfinished())
+}
+
+// Why there is no work.
+fn idle(tasks: &[Task]) -> Idle {
+    if any_pending(tasks) {
+        Idle::CapsFull
+    } else if any_unfinished(tasks) {
+        Idle::AllLeased
+    } else {
+        Idle::NoExecution
+    }
 }

@@ -14,4 +14,4 @@ returns-in-Some-first_to_start c = rw (← c.self.view_is) (next_is_start _ c.as
     c.index-tasks-i-in-Some-first_to_start.is c.next_step-in-Some-first_to_start.ensures c.given-in-Some-first_to_start.ensures)
 
 pub returns : goal.returns
-returns c = rw (← c.self.view_is) (next_is_none _ c.as_slice-tasks.result.now c.as_slice-tasks.ensures.value c.idle.result (rw (← c.as_slice-tasks.ensures.value) at (rw (← c.self.view_is) at c.in_default.ensures)) (rw (← c.as_slice-tasks.ensures.value) at (rw (← c.self.view_is) at c.in_default-first_to_go_on.ensures)) (rw (← c.as_slice-tasks.ensures.value) at (rw (← c.self.view_is) at c.in_default-first_to_start.ensures)) c.idle.ensures)
+returns c = rw (← c.self.view_is) (next_is_none _ c.as_slice-tasks.result.now c.as_slice-tasks.ensures.value c.idle.result (rw (← c.as_slice-tasks.ensures.value) at (rw (← c.self.view_is) at c.in_default.ensures)) (rw (← c.as_slice-tasks.ensures.value) at (rw (← c.self.view_is) at c.in_default-first_to_go_on.ensures)) (rw (← c.as_slice-tasks.ensures.value) at (rw (← c.self.view_is) at c.in_default-first_to_start.ensures)) (rw (← c.as_slice-tasks.ensures.value) at (rw (← c.self.view_is) at c.idle.ensures)))

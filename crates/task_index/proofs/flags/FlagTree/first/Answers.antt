@@ -1,4 +1,4 @@
-use Rattle.std.proofs.Common.{◌≡◌, ◌-◌, ◌+◌, ◌<◌, ℕ, Bool, List, [], length, get_or, arith, refl, sym, ap, ◌∙◌, false, subst}
+use Rattle.std.proofs.Common.{◌≡◌, ◌-◌, ◌+◌, ◌<◌, ℕ, Bool, List, [], length, get_or, arith, sym, ap, ◌∙◌, false, subst}
 use Rattle.std.proofs.lemmas.List.{get_or_read}
 use Rattle.task_index.specs.Trees.{level_at, flag_at}
 use Rattle.task_index.proofs.Firsts.{IsFirst, first-step, none-first, is-first}

@@ -1,4 +1,4 @@
-use Rattle.std.proofs.Common.{◌≡◌, ℕ, map, length, false, arith, ap, ◌∙◌, sym}
+use Rattle.std.proofs.Common.{◌≡◌, length, false, ap, ◌∙◌}
 use Rattle.std.proofs.lemmas.List.{length-map}
 use Rattle.exec_terms.specs.declared.task.Task.{Task}
 use Rattle.task_index.specs.Index.{Marks, wants_cancel, may_go_on, number_in}

@@ -1,4 +1,4 @@
-use Rattle.std.proofs.Common.{arith, length, length-append, sym, ap}
+use Rattle.std.proofs.Common.{arith}
 use Rattle.std.proofs.lemmas.List.{length-set}
 use Rattle.task_index.proofs.Holders.{room, out-lent}
 use Rattle.task_index.proofs.leases.LeaseTable.append.Goals as goal

@@ -1,6 +1,5 @@
-use Rattle.std.proofs.Common.{◌≡◌, ℕ, ◌<◌, List, arith, length, get_or, refl, sym, ap, ◌∙◌, Some, None}
-use Rattle.std.specs.Prelude.{Option}
-use Rattle.std.proofs.lemmas.List.{length-set, get_or_read, set-get_or}
+use Rattle.std.proofs.Common.{◌≡◌, ℕ, ◌<◌, length, get_or, refl, sym, ◌∙◌, Some, None}
+use Rattle.std.proofs.lemmas.List.{length-set, get_or_read}
 use Rattle.task_index.specs.Leases.{lease_at, IsFiled}
 use Rattle.task_index.proofs.Holders.{out-ended}
 use Rattle.task_index.proofs.leases.LeaseTable.release.Goals as goal
