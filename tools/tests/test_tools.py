@@ -241,6 +241,15 @@ class Tools(unittest.TestCase):
         code, _, err = self.tool("from-kafka", "--cluster-state", self.file("state", STATE), "--capacity", self.file("few", few))
         self.assertEqual((code, err), (2, "from-kafka: no capacity is known of broker 0: give an entry for it, or one for all others, in --capacity\n"))
 
+    def test_random_executions_are_those_of_the_executors_tests(self):
+        def squeezed(text):
+            return "".join(text.split()).replace(",)", ")").replace(",]", "]")
+
+        code, out, err = self.tool("executions")
+        self.assertEqual((code, err), (0, ""))
+        self.assertEqual(squeezed(out), squeezed((ROOT / "crates/executor_core/src/tests/random.rt").read_text()))
+        self.assertEqual(self.tool("executions", "--seed"), (2, "", "executions: --seed wants a number\n"))
+
     def test_manual_and_completion_are_those_of_the_help(self):
         self.assertEqual(self.tool("make-manual", "--check"), (0, "", ""))
         page = (ROOT / "docs/sumpharu.1").read_text()

@@ -1,5 +1,5 @@
 -- The test of a launch gives what a launch asks.
-use Rattle.std.proofs.Common.{◌≡◌, ℕ, ◌<◌, ◌≤◌, Bool, true, false, not, ◌&&◌, cond, List, [], ◌∷◌, length, get_or, arith, refl, sym, inl, inr, zero, suc}
+use Rattle.std.proofs.Common.{◌≡◌, ℕ, ◌<◌, ◌≤◌, Bool, true, false, not, ◌&&◌, cond, List, [], ◌∷◌, length, get_or, ◌+◌, subst, arith, refl, sym, inl, inr, zero, suc}
 use Rattle.std.specs.Prelude.{◌==◌, nat_lt, nat_le, bytes_eq}
 use Rattle.std.specs.List.{All, list_any, list_all, count_by}
 use Rattle.std.proofs.lemmas.Bool.{cases_eq, and_parts, and_from, not-true, not_from_false, ltb-true, leb-true, lt-ltb, le-leb, eq-eqb, ne_eqb, or_parts, or_from, true≢false}
@@ -11,7 +11,7 @@ use Rattle.exec_terms.specs.Words.{needs}
 use Rattle.exec_terms.specs.Machine.{State, task_of, list_now}
 use Rattle.exec_terms.specs.Stops.{is_host}
 use Rattle.exec_terms.specs.Runs.{CanLaunch}
-use Rattle.executor_core.specs.Launch.{have_distinct_parts, is_replica_list, needs_between, needs_no_dead, fits_launch, may_launch}
+use Rattle.executor_core.specs.Launch.{PartsRise, have_distinct_parts, is_replica_list, needs_between, needs_no_dead, fits_launch, may_launch}
 
 -- what a test says of all elements
 pub all_pass : {X : Type 0} (p : X → Bool) (xs : List X) → list_all p xs ≡ true → All (λ x. p x ≡ true) xs
@@ -144,3 +144,23 @@ asked s ps can =
       brokers = can.brokers k d m;
       alive = can.alive k d m;
     })))
+
+-- partitions that rise differ
+rest_rises : (p : Proposal) (ps : List Proposal) → PartsRise (length (p ∷ ps)) (p ∷ ps) → PartsRise (length ps) ps
+rest_rises p ps up = λ k d l.
+    let next : suc k + 1 ≡ suc (k + 1) = omega arith in
+    subst (λ (j : ℕ). (get_or ps k d).part < (get_or (p ∷ ps) j d).part) next (up (suc k) d (omega arith))
+
+later : (n : ℕ) (p : Proposal) (ps : List Proposal) → n < p.part → PartsRise (length (p ∷ ps)) (p ∷ ps) → list_any (λ (q : Proposal). q.part == n) (p ∷ ps) ≡ false
+later n p [] less up = or_from (p.part == n) false (ne_eqb p.part n (λ e. absurd (omega arith))) refl
+later n p (q ∷ ps) less up =
+    let first : p.part < q.part = up 0 p (omega arith) in
+    or_from (p.part == n) _ (ne_eqb p.part n (λ e. absurd (omega arith))) (later n q ps (omega arith) (rest_rises p (q ∷ ps) up))
+
+pub rising_differ : (ps : List Proposal) → PartsRise (length ps) ps → have_distinct_parts ps ≡ true
+rising_differ [] up = refl
+rising_differ (p ∷ []) up = refl
+rising_differ (p ∷ (q ∷ ps)) up =
+    and_from (not (list_any (λ (r : Proposal). r.part == p.part) (q ∷ ps))) (have_distinct_parts (q ∷ ps))
+    (not_from_false _ (later p.part q ps (up 0 p (omega arith)) (rest_rises p (q ∷ ps) up)))
+    (rising_differ (q ∷ ps) (rest_rises p (q ∷ ps) up))

@@ -16,6 +16,7 @@ use Rattle.exec_terms.specs.Stops.{is_host, marked}
 use Rattle.exec_terms.proofs.Calm.{SameLists}
 use Rattle.cap_ledger.specs.Ledger.{Ledger, knows, gains, differ, HasRoom, IsCounted, IsKnownList, Enters}
 use Rattle.task_planner.specs.declared.slot.Slot.{Slot}
+use Rattle.task_index.specs.Index.{Marks}
 use Rattle.task_planner.specs.Queue.{IsListOf, AreListsOf}
 use Rattle.executor_core.specs.Alone.{proposal_of}
 use Rattle.executor_core.specs.Kept.{AreCounts, slot_of, IsFixed, IsKept}
@@ -162,7 +163,7 @@ counted hosts tasks l i x known read up c = record {
 }
 
 -- the lists of a task are of brokers that the counts know
-module _ (s : State) (brokers : List ℕ) (unions : Lists) (proposals : List Proposal) (l : Ledger) (left : ℕ) (queue : List Slot) (k : IsKept s brokers unions proposals l left queue) where
+module _ (s : State) (brokers : List ℕ) (unions : Lists) (proposals : List Proposal) (l : Ledger) (left : ℕ) (queue : List Slot) (index : Marks) (k : IsKept s brokers unions proposals l left queue index) where
   known_is : (b : ℕ) → knows l b ≡ has brokers b
   known_is b = k.counts_are.known b ∙ is_host-has s.hosts b ∙ ap (λ (ids : List ℕ). has ids b) k.fixed.hosts_are
 

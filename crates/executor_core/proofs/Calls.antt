@@ -24,11 +24,13 @@ use Rattle.exec_terms.proofs.Take.{IsValid-take}
 use Rattle.plan_terms.specs.declared.settings.Caps.{Caps}
 use Rattle.cap_ledger.specs.Ledger.{Ledger, HasRoom, IsCounted, IsKnownList, Enters}
 use Rattle.task_planner.specs.declared.slot.Slot.{Slot}
+use Rattle.task_index.specs.Index.{Marks, marks_of, marked_at}
 use Rattle.task_planner.specs.Queue.{no_slot, slot_at, ended}
 use Rattle.executor_core.specs.Kept.{slot_of, IsKept}
 use Rattle.executor_core.proofs.Beside.{fixed-set, counts-same, counts-enter, counts-leave, queue-same, fixed-map, counts-map, fixed-marked, counts-marked, room, counted, known_lists}
 use Rattle.exec_terms.proofs.Calm.{SameLists}
 use Rattle.executor_core.proofs.Unfinished.{unfinished-same, unfinished-ends, unfinished-some, stopped-left, killed-left}
+use Rattle.executor_core.proofs.Marked.{marks-set}
 use Rattle.executor_core.proofs.Starts.{Begins, begins, started-flying}
 
 -- a change that moves the task neither into flight nor out of it, nor out of the queue
@@ -121,16 +123,17 @@ killed_slots : (b : ℕ) (ts : List Task) → map (λ t. slot_of (killed_by b t)
 killed_slots b [] = refl
 killed_slots b (t ∷ ts) = ap (λ (slots : List Slot). slot_of (killed_by b t) ∷ slots) (killed_slots b ts)
 
-module _ (s : State) (brokers : List ℕ) (unions : Lists) (proposals : List Proposal) (l : Ledger) (left : ℕ) (queue : List Slot) (k : IsKept s brokers unions proposals l left queue) where
+module _ (s : State) (brokers : List ℕ) (unions : Lists) (proposals : List Proposal) (l : Ledger) (left : ℕ) (queue : List Slot) (index : Marks) (k : IsKept s brokers unions proposals l left queue index) where
   -- a calm change of one task
-  pub calm_kept : (i n : ℕ) (x y : Task) → i < length s.tasks → x ≡ get_or s.tasks i x → IsCalm x y → IsValid (record s { tasks = set s.tasks i y; leases = n })
-      → IsKept (record s { tasks = set s.tasks i y; leases = n }) brokers unions proposals l left queue
-  calm_kept i n x y known read calm valid = record {
+  pub calm_kept : (i n : ℕ) (x y : Task) (index' : Marks) → i < length s.tasks → x ≡ get_or s.tasks i x → IsCalm x y → index' ≡ marked_at index i y → IsValid (record s { tasks = set s.tasks i y; leases = n })
+      → IsKept (record s { tasks = set s.tasks i y; leases = n }) brokers unions proposals l left queue index'
+  calm_kept i n x y index' known read calm m valid = record {
     valid = valid;
     fixed = fixed-set brokers s.hosts s.tasks i x y known read calm.same s.base unions proposals k.fixed;
     counts_are = counts-same brokers s.hosts s.tasks i x y known read calm.same l calm.flies k.counts_are;
     left_is = k.left_is ∙ sym (unfinished-same s.tasks i x y known read (rw (calm.waits, calm.flies) refl));
     queue_is = queue-same brokers s.hosts s.tasks i x y known read calm.same queue calm.waits k.queue_is;
+    index_is = marks-set s.tasks i y index index' k.index_is m;
   }
 
   -- a task that holds a lease worth it is in flight
@@ -150,12 +153,12 @@ module _ (s : State) (brokers : List ℕ) (unions : Lists) (proposals : List Pro
   pub leaving : (lease : ℕ) (kind : WorkKind) (i : ℕ) (x : Task) → ◌≡◌ {A = Result ℕ LeaseFault} (Ok i) (test_lease s lease kind) → x ≡ get_or s.tasks i x → IsLeaving x
   leaving lease kind i x e read =
       let w = worth s lease kind i e in
-      let lists = known_lists s brokers unions proposals l left queue k i x w.known read in
+      let lists = known_lists s brokers unions proposals l left queue index k i x w.known read in
       record { before = lists.0; after = lists.1; counted = counted s.hosts s.tasks l i x w.known read (flies lease kind i x e read) k.counts_are; some = rw k.left_is (unfinished-some s.tasks i x w.known read (or_right (is_pending x.phase) (in_flight x.phase) (flies lease kind i x e read))) }
 
-  pub left_kept : (lease : ℕ) (kind : WorkKind) (i : ℕ) (x y : Task) (before after : List ℕ) (l' : Ledger) → ◌≡◌ {A = Result ℕ LeaseFault} (Ok i) (test_lease s lease kind) → x ≡ get_or s.tasks i x
-      → IsEnd x y → before ≡ x.before → after ≡ x.after → Enters before after l' l → IsValid (with_task s i y) → IsKept (with_task s i y) brokers unions proposals l' (left - 1) queue
-  left_kept lease kind i x y before after l' e read ends b a enters valid =
+  pub left_kept : (lease : ℕ) (kind : WorkKind) (i : ℕ) (x y : Task) (before after : List ℕ) (l' : Ledger) (index' : Marks) → ◌≡◌ {A = Result ℕ LeaseFault} (Ok i) (test_lease s lease kind) → x ≡ get_or s.tasks i x
+      → IsEnd x y → before ≡ x.before → after ≡ x.after → Enters before after l' l → index' ≡ marked_at index i y → IsValid (with_task s i y) → IsKept (with_task s i y) brokers unions proposals l' (left - 1) queue index'
+  left_kept lease kind i x y before after l' index' e read ends b a enters m valid =
       let known = (worth s lease kind i e).known in
       let up = flies lease kind i x e read in
       record {
@@ -164,6 +167,7 @@ module _ (s : State) (brokers : List ℕ) (unions : Lists) (proposals : List Pro
         counts_are = counts-leave brokers s.hosts s.tasks i x y known read ends.same l l' up ends.flies (rw (b, a) at enters) k.counts_are;
         left_is = omega (arith, k.left_is, unfinished-ends s.tasks i x y known read (or_right (is_pending x.phase) (in_flight x.phase) up) (rw (ends.waits, ends.flies) refl));
         queue_is = queue-same brokers s.hosts s.tasks i x y known read ends.same queue (ends.waits ∙ sym (grounded x.phase up)) k.queue_is;
+        index_is = marks-set s.tasks i y index index' k.index_is m;
       }
 
   -- the task that is given work
@@ -178,12 +182,13 @@ module _ (s : State) (brokers : List ℕ) (unions : Lists) (proposals : List Pro
     valid_then y is = IsValid-same _ _ (taken_is s g x y (sym next) read is) (IsValid-take s k.valid)
 
     -- it goes on
-    pub gone_on : (y : Task) → g.starts ≡ false → y ≡ with_lease g.lease g.work x → IsKept (record s { tasks = set s.tasks g.task y; leases = g.lease }) brokers unions proposals l left queue
+    pub gone_on : (y : Task) (index' : Marks) → g.starts ≡ false → y ≡ with_lease g.lease g.work x → index' ≡ marked_at index g.task y
+        → IsKept (record s { tasks = set s.tasks g.task y; leases = g.lease }) brokers unions proposals l left queue index'
     unfolding Begins
-    gone_on y starts is =
+    gone_on y index' starts is m =
         let up : in_flight x.phase ≡ true = rw here (rw starts at (begins s g next)) in
         let calm : IsCalm x (with_lease g.lease g.work x) = record { same = record { part = refl; before = refl; after = refl }; flies = (started-flying x.phase up).0; waits = (started-flying x.phase up).1 } in
-        calm_kept g.task g.lease x y given_within read (rw is calm) (valid_then y is)
+        calm_kept g.task g.lease x y index' given_within read (rw is calm) m (valid_then y is)
 
     -- it begins
     pub record IsStarting : Type 0 where
@@ -201,7 +206,7 @@ module _ (s : State) (brokers : List ℕ) (unions : Lists) (proposals : List Pro
     unfolding Begins
     starting starts =
         let pending : x.phase ≡ Pending = rw here (rw starts at (begins s g next)) in
-        let lists = known_lists s brokers unions proposals l left queue k g.task x given_within read in
+        let lists = known_lists s brokers unions proposals l left queue index k g.task x given_within read in
         record {
           pending = pending;
           before = lists.0;
@@ -211,10 +216,10 @@ module _ (s : State) (brokers : List ℕ) (unions : Lists) (proposals : List Pro
           waits = rw (slot_here, pending) refl;
         }
 
-    pub start_kept : (y : Task) (before after : List ℕ) (l' : Ledger) (queue' : List Slot) → g.starts ≡ true → y ≡ with_lease g.lease g.work x → before ≡ x.before → after ≡ x.after
-        → Enters before after l l' → queue' ≡ set queue g.task (ended (slot_at queue g.task))
-        → IsKept (record s { tasks = set s.tasks g.task y; leases = g.lease }) brokers unions proposals l' left queue'
-    start_kept y before after l' queue' starts is b a enters q =
+    pub start_kept : (y : Task) (before after : List ℕ) (l' : Ledger) (queue' : List Slot) (index' : Marks) → g.starts ≡ true → y ≡ with_lease g.lease g.work x → before ≡ x.before → after ≡ x.after
+        → Enters before after l l' → queue' ≡ set queue g.task (ended (slot_at queue g.task)) → index' ≡ marked_at index g.task y
+        → IsKept (record s { tasks = set s.tasks g.task y; leases = g.lease }) brokers unions proposals l' left queue' index'
+    start_kept y before after l' queue' index' starts is b a enters q m =
         let w = starting starts in
         let phase : y.phase ≡ InProgress = ap (λ (t : Task). t.phase) is ∙ ap started w.pending in
         let same : SameLists x y = record { part = ap (λ (t : Task). t.part) is; before = ap (λ (t : Task). t.before) is; after = ap (λ (t : Task). t.after) is } in
@@ -229,23 +234,25 @@ module _ (s : State) (brokers : List ℕ) (unions : Lists) (proposals : List Pro
               ∙ ap (λ (slots : List Slot). set slots g.task (ended (slot_of x))) k.queue_is
               ∙ ap (λ (slot : Slot). set (map slot_of s.tasks) g.task slot) slot
               ∙ sym (map-set slot_of s.tasks g.task y);
+          index_is = marks-set s.tasks g.task y index index' k.index_is m;
         }
 
   -- a stop
-  pub stop_kept : (force : Bool) (tasks : List Task) (aborted : ℕ) (queue' : List Slot) → tasks ≡ map (stopped_by force) s.tasks → aborted ≡ count_by (λ t. is_pending t.phase) s.tasks → queue' ≡ map (λ t. ended (slot_of t)) s.tasks
-      → IsKept (record s { tasks = tasks; stopped = true }) brokers unions proposals l (left - aborted) queue'
-  stop_kept force tasks aborted queue' e n q = record {
+  pub stop_kept : (force : Bool) (tasks : List Task) (aborted : ℕ) (queue' : List Slot) (index' : Marks) → tasks ≡ map (stopped_by force) s.tasks → aborted ≡ count_by (λ t. is_pending t.phase) s.tasks → queue' ≡ map (λ t. ended (slot_of t)) s.tasks
+      → index' ≡ marks_of tasks → IsKept (record s { tasks = tasks; stopped = true }) brokers unions proposals l (left - aborted) queue' index'
+  stop_kept force tasks aborted queue' index' e n q m = record {
     valid = IsValid-stopped s force tasks e k.valid;
     fixed = rw e (fixed-map brokers s.hosts s.tasks (stopped_by force) (stopped_same force) s.base unions proposals k.fixed);
     counts_are = rw e (counts-map brokers s.hosts s.tasks (stopped_by force) (stopped_same force) l (λ t. stopped_flies force t.phase) k.counts_are);
     left_is = rw e (omega (arith, n, k.left_is, stopped-left force s.tasks));
     queue_is = q ∙ stopped_slots force s.tasks ∙ sym (ap (map slot_of) e);
+    index_is = m;
   }
 
   -- a death
-  pub kill_kept : (b : ℕ) (tasks : List Task) (hosts : List Host) (dead : ℕ) (queue' : List Slot) → tasks ≡ map (killed_by b) s.tasks → dead ≡ count_by (λ t. needs t b && is_pending t.phase) s.tasks → hosts ≡ map (marked b) s.hosts → queue' ≡ map (λ t. slot_of (killed_by b t)) s.tasks
-      → IsKept (record s { tasks = tasks; hosts = hosts }) brokers unions proposals l (left - dead) queue'
-  kill_kept b tasks hosts dead queue' e n h q = record {
+  pub kill_kept : (b : ℕ) (tasks : List Task) (hosts : List Host) (dead : ℕ) (queue' : List Slot) (index' : Marks) → tasks ≡ map (killed_by b) s.tasks → dead ≡ count_by (λ t. needs t b && is_pending t.phase) s.tasks → hosts ≡ map (marked b) s.hosts → queue' ≡ map (λ t. slot_of (killed_by b t)) s.tasks
+      → index' ≡ marks_of tasks → IsKept (record s { tasks = tasks; hosts = hosts }) brokers unions proposals l (left - dead) queue' index'
+  kill_kept b tasks hosts dead queue' index' e n h q m = record {
     valid = IsValid-killed s b tasks hosts e h k.valid;
     fixed = rw (e, h) (fixed-marked b brokers s.hosts s.base (map (killed_by b) s.tasks) unions proposals
         (fixed-map brokers s.hosts s.tasks (killed_by b) (λ t. (killed_calm b t).0) s.base unions proposals k.fixed));
@@ -253,8 +260,9 @@ module _ (s : State) (brokers : List ℕ) (unions : Lists) (proposals : List Pro
         (counts-map brokers s.hosts s.tasks (killed_by b) (λ t. (killed_calm b t).0) l (λ t. (killed_calm b t).1) k.counts_are));
     left_is = rw e (omega (arith, n, k.left_is, killed-left b s.tasks));
     queue_is = q ∙ killed_slots b s.tasks ∙ sym (ap (map slot_of) e);
+    index_is = m;
   }
 
   -- other caps
-  pub caps_kept : (caps : Caps) → 1 ≤ caps.broker → 1 ≤ caps.cluster → 1 ≤ caps.leader → IsKept (record s { caps = caps }) brokers unions proposals l left queue
-  caps_kept caps b c m = record { valid = IsValid-caps s caps b c m k.valid; fixed = k.fixed; counts_are = k.counts_are; left_is = k.left_is; queue_is = k.queue_is }
+  pub caps_kept : (caps : Caps) → 1 ≤ caps.broker → 1 ≤ caps.cluster → 1 ≤ caps.leader → IsKept (record s { caps = caps }) brokers unions proposals l left queue index
+  caps_kept caps b c m = record { valid = IsValid-caps s caps b c m k.valid; fixed = k.fixed; counts_are = k.counts_are; left_is = k.left_is; queue_is = k.queue_is; index_is = k.index_is }

@@ -21,12 +21,16 @@ prefix_len-map : {X Y : Type 0} (p : Y → Bool) (f : X → Y) (xs : List X) →
 prefix_len-map p f [] = refl
 prefix_len-map p f (x ∷ xs) = ap (λ (n : ℕ). cond (p (f x)) (1 + n) 0) (prefix_len-map p f xs)
 
-position-map : {X Y : Type 0} (p : Y → Bool) (f : X → Y) (xs : List X) → position p (map f xs) ≡ position (λ x. p (f x)) xs
+pub position-map : {X Y : Type 0} (p : Y → Bool) (f : X → Y) (xs : List X) → position p (map f xs) ≡ position (λ x. p (f x)) xs
 position-map p f xs = rw (prefix_len-map (λ y. not (p y)) f xs, length-map xs f) refl
 
 list_any-map : {X Y : Type 0} (p : Y → Bool) (f : X → Y) (xs : List X) → list_any p (map f xs) ≡ list_any (λ x. p (f x)) xs
 list_any-map p f [] = refl
 list_any-map p f (x ∷ xs) = ap (λ (b : Bool). p (f x) || b) (list_any-map p f xs)
+
+-- a task of the queue waits where one is pending
+pub waiting_is : (tasks : List Task) (queue : List Slot) → queue ≡ map slot_of tasks → list_any (λ s. s.waits) queue ≡ list_any (λ t. is_pending t.phase) tasks
+waiting_is tasks queue q = ap (λ (slots : List Slot). list_any (λ s. s.waits) slots) q ∙ list_any-map (λ s. s.waits) slot_of tasks
 
 abbrev one : Bool → ℕ
 one b = cond b 1 0

@@ -23,11 +23,13 @@ use Rattle.exec_terms.proofs.Launch.{length-each_below, get_or-each_below, all_p
 use Rattle.exec_terms.proofs.WorkLeft.{position-None}
 use Rattle.cap_ledger.specs.Ledger.{Ledger, gains, differ, IsEmpty}
 use Rattle.task_planner.specs.declared.slot.Slot.{Slot}
+use Rattle.task_index.specs.Index.{Marks, marks_of, no_marks}
 use Rattle.task_planner.specs.Queue.{IsListOf, AreListsOf, waiting}
 use Rattle.executor_core.specs.Alone.{proposal_of}
 use Rattle.executor_core.specs.Kept.{AreCounts, slot_of, IsFixed, unfinished_tasks, IsKept}
 use Rattle.executor_core.proofs.Unfinished.{unfinished-new}
 use Rattle.executor_core.proofs.Beside.{is_host-has}
+use Rattle.executor_core.proofs.Marked.{marks-new}
 use Rattle.executor_core.proofs.Flying.{flying, flying-none}
 
 pub proposals_again : (chunks : List ℕ) (ps : List Proposal) → map proposal_of (map (task_of chunks) ps) ≡ ps
@@ -51,7 +53,7 @@ ended_list P Dead before after e b a = b
 flying-new : (P : List ℕ → List ℕ → Bool) (chunks : List ℕ) (ps : List Proposal) → flying P (map (task_of chunks) ps) ≡ 0
 flying-new P chunks ps = all_pending (λ t. in_flight t.phase && P t.before t.after) chunks ps (λ q. refl)
 
-module _ (s : State) (brokers : List ℕ) (unions : Lists) (old : List Proposal) (l : Ledger) (left : ℕ) (queue : List Slot) (k : IsKept s brokers unions old l left queue) (none : first_unfinished s ≡ None) where
+module _ (s : State) (brokers : List ℕ) (unions : Lists) (old : List Proposal) (l : Ledger) (left : ℕ) (queue : List Slot) (index : Marks) (k : IsKept s brokers unions old l left queue index) (none : first_unfinished s ≡ None) where
   task_lists : (i : ℕ) → i < length s.tasks → AreListsOf brokers (proposal_of (task_at s.tasks i))
   task_lists i m =
       let all : All (AreListsOf brokers) (map proposal_of s.tasks) = rw (← k.fixed.proposals_are) k.fixed.task_lists in
@@ -84,9 +86,10 @@ module _ (s : State) (brokers : List ℕ) (unions : Lists) (old : List Proposal)
       }
 
   pub kept_launched : (base unions' : Lists) (tasks : List Task) (proposals copies : List Proposal) (queue' : List Slot) → CanLaunch s proposals
-      → base ≡ lists_now s → tasks ≡ map (task_of s.chunks) proposals → unions' ≡ map union_of tasks → copies ≡ proposals → queue' ≡ map waiting proposals
-      → IsFixed brokers s.hosts base tasks unions' copies × AreCounts s.hosts tasks l × (queue' ≡ map slot_of tasks) × (length proposals ≡ unfinished_tasks tasks)
-  kept_launched base unions' tasks proposals copies queue' can b t u c q = (
+      → (index' : Marks) → base ≡ lists_now s → tasks ≡ map (task_of s.chunks) proposals → unions' ≡ map union_of tasks → copies ≡ proposals → queue' ≡ map waiting proposals
+      → index' ≡ no_marks (length proposals)
+      → IsFixed brokers s.hosts base tasks unions' copies × AreCounts s.hosts tasks l × (queue' ≡ map slot_of tasks) × (length proposals ≡ unfinished_tasks tasks) × (index' ≡ marks_of tasks)
+  kept_launched base unions' tasks proposals copies queue' can index' b t u c q m = (
     record {
       hosts_are = k.fixed.hosts_are;
       once = k.fixed.once;
@@ -106,6 +109,7 @@ module _ (s : State) (brokers : List ℕ) (unions : Lists) (old : List Proposal)
     },
     q ∙ sym (ap (map slot_of) t ∙ slots_are s.chunks proposals),
     rw t (sym (unfinished-new s.chunks proposals)),
+    m ∙ sym (ap marks_of t ∙ marks-new s.chunks proposals),
   ) where
     no_change : (P : List ℕ → List ℕ → Bool) → flying P s.tasks ≡ flying P tasks
     no_change P = flying-none P s.tasks none ∙ sym (ap (flying P) t ∙ flying-new P s.chunks proposals)
@@ -116,12 +120,12 @@ ids_of_hosts [] dead = refl
 ids_of_hosts (b ∷ bs) dead = ap (λ (ids : List ℕ). b ∷ ids) (ids_of_hosts bs dead)
 
 -- what a new executor keeps
-pub kept_new : (lists base : Lists) (chunks : List ℕ) (caps : Caps) (brokers dead ids : List ℕ) (hosts : List Host) (tasks : List Task) (unions : Lists) (proposals none : List Proposal) (l : Ledger) (queue : List Slot)
-    → base ≡ lists → ids ≡ brokers → hosts ≡ hosts_of brokers dead → tasks ≡ [] → unions ≡ [] → proposals ≡ [] → queue ≡ map waiting none → none ≡ []
+pub kept_new : (lists base : Lists) (chunks : List ℕ) (caps : Caps) (brokers dead ids : List ℕ) (hosts : List Host) (tasks : List Task) (unions : Lists) (proposals none : List Proposal) (l : Ledger) (queue : List Slot) (index : Marks)
+    → base ≡ lists → ids ≡ brokers → hosts ≡ hosts_of brokers dead → tasks ≡ [] → unions ≡ [] → proposals ≡ [] → queue ≡ map waiting none → none ≡ [] → index ≡ no_marks 0
     → All (λ n. n ≤ 1000) chunks → 1 ≤ caps.broker → 1 ≤ caps.cluster → 1 ≤ caps.leader
     → distinct brokers ≡ true → AreReplicaLists lists → All (λ list. list_all (has brokers) list ≡ true) lists → IsEmpty brokers l
-    → IsKept (record { base = base; chunks = chunks; caps = caps; hosts = hosts; tasks = tasks; stopped = false; leases = 0 }) ids unions proposals l 0 queue
-kept_new lists base chunks caps brokers dead ids hosts tasks unions proposals none l queue b i h t u p q n few broker cluster leader once are known empty = rw (b, i, h, t, u, p, q, n) (record {
+    → IsKept (record { base = base; chunks = chunks; caps = caps; hosts = hosts; tasks = tasks; stopped = false; leases = 0 }) ids unions proposals l 0 queue index
+kept_new lists base chunks caps brokers dead ids hosts tasks unions proposals none l queue index b i h t u p q n m few broker cluster leader once are known empty = rw (b, i, h, t, u, p, q, n, m) (record {
   valid = IsValid-new lists chunks caps (hosts_of brokers dead) are few broker cluster leader;
   fixed = record {
     hosts_are = ids_of_hosts brokers dead;
@@ -140,4 +144,5 @@ kept_new lists base chunks caps brokers dead ids hosts tasks unions proposals no
   };
   left_is = refl;
   queue_is = refl;
+  index_is = refl;
 })

@@ -8,6 +8,7 @@ pub mod Fitting
 pub mod Flying
 pub mod Launched
 pub mod Launching
+pub mod Marked
 pub mod Places
 pub mod Rounds
 pub mod Shown

@@ -13,6 +13,7 @@ use Rattle.exec_terms.specs.Valid.{IsValid}
 use Rattle.cap_ledger.specs.Ledger.{Ledger, knows, adding_of, removing_of}
 use Rattle.task_planner.specs.declared.slot.Slot.{Slot}
 use Rattle.task_planner.specs.Queue.{IsListOf, AreListsOf}
+use Rattle.task_index.specs.Index.{Marks, marks_of}
 use Rattle.executor_core.specs.Alone.{proposal_of}
 
 -- the counts are those of the list of tasks, by filtering it, and they are of the hosts
@@ -42,9 +43,10 @@ abbrev pub unfinished_tasks : List Task → ℕ
 unfinished_tasks tasks = count_by (λ t. is_unfinished t.phase) tasks
 
 -- a valid state, and what is kept beside it
-pub record IsKept (s : State) (brokers : List ℕ) (unions : Lists) (proposals : List Proposal) (counts : Ledger) (left : ℕ) (queue : List Slot) : Type 0 where
+pub record IsKept (s : State) (brokers : List ℕ) (unions : Lists) (proposals : List Proposal) (counts : Ledger) (left : ℕ) (queue : List Slot) (index : Marks) : Type 0 where
   pub valid : IsValid s
   pub fixed : IsFixed brokers s.hosts s.base s.tasks unions proposals
   pub counts_are : AreCounts s.hosts s.tasks counts
   pub left_is : left ≡ unfinished_tasks s.tasks
   pub queue_is : queue ≡ map slot_of s.tasks
+  pub index_is : index ≡ marks_of s.tasks

@@ -1,5 +1,5 @@
 -- What a launch asks, as a test.
-use Rattle.std.specs.Prelude.{ℕ, Bool, true, not, ◌==◌, ◌&&◌, ◌||◌, nat_lt, nat_le, List, [], ◌∷◌, length, bytes_eq}
+use Rattle.std.specs.Prelude.{ℕ, ◌+◌, ◌<◌, get_or, Bool, true, not, ◌==◌, ◌&&◌, ◌||◌, nat_lt, nat_le, List, [], ◌∷◌, length, bytes_eq}
 use Rattle.std.specs.List.{list_any, list_all}
 use Rattle.plan_terms.specs.Belongs.{distinct}
 use Rattle.plan_terms.specs.Cluster.{leads}
@@ -25,6 +25,10 @@ needs_no_dead hosts before after = list_all (λ h. not (h.dead && needs_between 
 abbrev pub have_distinct_parts : List Proposal → Bool
 have_distinct_parts [] = true
 have_distinct_parts (p ∷ ps) = not (list_any (λ q. q.part == p.part) ps) && have_distinct_parts ps
+
+-- of the first n proposals, each is of a later partition than the one before it
+abbrev pub PartsRise : ℕ → List Proposal → Type 0
+PartsRise n proposals = (k : ℕ) (d : Proposal) → k + 1 < n → (get_or proposals k d).part < (get_or proposals (k + 1) d).part
 
 -- the proposal is of a known partition, from the list that it has now to distinct known brokers, and needs none that is dead
 unfoldable pub fits_launch : State → Proposal → Bool

@@ -1,9 +1,9 @@
 // What a launch asks of its proposals.
-ghost use Rattle.std.specs.Prelude.{◌≡◌, ◌==◌};
+ghost use Rattle.std.specs.Prelude.{◌≡◌, ◌==◌, true, length};
 ghost use Rattle.std.specs.List.{list_all, list_any};
 ghost use Rattle.plan_terms.specs.Belongs.{distinct};
 ghost use Rattle.exec_terms.specs.Stops.{is_host};
-ghost use Rattle.executor_core.specs.Launch.{have_distinct_parts, is_replica_list, needs_between, needs_no_dead};
+ghost use Rattle.executor_core.specs.Launch.{PartsRise, have_distinct_parts, is_replica_list, needs_between, needs_no_dead};
 
 use crate::scan::is_host;
 use exec_terms::{Host, differs, has, leads};
@@ -26,13 +26,33 @@ fn has_part(proposals: &[Proposal], part: u32) -> bool
     proposals.iter().any(|p| p.part == part)
 }
 
-/// Whether the proposals are of partitions that differ.
+/// Whether the proposals are of partitions that differ. One pass tells it where they are in order of the partitions, as those
+/// of a plan are.
 pub fn have_distinct_parts(proposals: &[Proposal]) -> bool
+    ensures { result ≡ have_distinct_parts proposals.now }
+{
+    parts_rise(proposals) || all_differ(proposals)
+}
+
+// Whether each proposal is of a later partition than the one before it.
+fn parts_rise(proposals: &[Proposal]) -> bool
+    ensures { result ≡ true → PartsRise (length proposals.now) proposals.now }
+{
+    for place in 1..proposals.len() {
+        if proposals[place - 1].part >= proposals[place].part {
+            return false;
+        }
+    }
+    true
+}
+
+// Whether no two proposals are of one partition.
+fn all_differ(proposals: &[Proposal]) -> bool
     ensures { result ≡ have_distinct_parts proposals.now }
 {
     match proposals {
         [] => true,
-        [first, rest @ ..] => !has_part(rest, first.part) && have_distinct_parts(rest),
+        [first, rest @ ..] => !has_part(rest, first.part) && all_differ(rest),
     }
 }
 

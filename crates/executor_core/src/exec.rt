@@ -3,10 +3,10 @@ ghost use Rattle.std.specs.Prelude.{◌≡◌, ◌↔◌, ◌+◌, ◌<◌, ◌�
 ghost use Rattle.std.specs.List.{All, list_all, list_any, position};
 ghost use Rattle.plan_terms.specs.Belongs.{distinct};
 ghost use Rattle.plan_terms.specs.Cluster.{has};
-ghost use Rattle.exec_terms.specs.Machine.{next_work, may_start, task_at, any_unfinished, taken, after_take, after_launch, after_caps, first_unfinished, list_now, lists_now};
+ghost use Rattle.exec_terms.specs.Machine.{next_work, idle, may_start, task_at, any_unfinished, taken, after_take, after_launch, after_caps, first_unfinished, list_now, lists_now};
 ghost use Rattle.exec_terms.specs.Leases.{test_lease, end_lease, after_copied, copied_reply, after_copy_failed, copy_failed_reply, after_commit, commit_reply, after_cancel, cancel_reply, give_back_reply, held, held_for};
 ghost use Rattle.exec_terms.specs.Stops.{after_stop, stop_reply, after_kill, kill_reply, has_died};
-ghost use Rattle.exec_terms.specs.Words.{is_aborting, is_cancel, is_on, is_replica_task, is_unfinished, union_of, list_shown};
+ghost use Rattle.exec_terms.specs.Words.{is_pending, is_aborting, is_in_progress, is_free, is_cancel, holds, holds_for, is_on, is_replica_task, is_unfinished, union_of, list_shown};
 ghost use Rattle.exec_terms.specs.Runs.{new_state, hosts_of, CanLaunch, IsExecuting};
 ghost use Rattle.exec_terms.specs.Settled.{settled, settled_in, settled_lists};
 ghost use Rattle.exec_terms.specs.Tally.{leases_out, phase_counts};
@@ -14,6 +14,9 @@ ghost use Rattle.exec_terms.specs.Valid.{IsValid};
 ghost use Rattle.executor_core.specs.Alone.{proposal_of};
 ghost use Rattle.executor_core.specs.Kept.{AreCounts};
 ghost use Rattle.executor_core.specs.Launch.{fits_launch, may_launch};
+
+#[cfg(test)]
+mod plain;
 
 use crate::{admit, change, scan};
 use cap_ledger::{Caps, Counts};
@@ -25,6 +28,7 @@ use load_model::Assign;
 use plan_terms::{Memory, Proposal, Replicas};
 use std::alloc::Global;
 use std::marker::Model;
+use task_index::TaskIndex;
 use task_planner::TaskQueue;
 
 /// Carries out one execution at a time: its tasks, and the work on each that is given and reported.
@@ -49,6 +53,8 @@ pub struct Exec {
     unfinished: u32,
     // the tasks, and which of them wait
     queue: TaskQueue,
+    // which task wants its cancel, which may go on, and which has a lease
+    index: TaskIndex,
 }
 
 impl Model for Exec {
@@ -59,7 +65,7 @@ impl Model for Exec {
 
     ghost view = { λ e. record { base = e.base.items; chunks = e.chunks.items; caps = e.caps; hosts = e.hosts.items; tasks = e.tasks.items; stopped = e.stopped; leases = e.leases } };
 
-    ghost invariant = { λ e. IsKept (record { base = e.base.items; chunks = e.chunks.items; caps = e.caps; hosts = e.hosts.items; tasks = e.tasks.items; stopped = e.stopped; leases = e.leases }) e.brokers.items e.unions.items e.proposals.items e.counts e.unfinished e.queue };
+    ghost invariant = { λ e. IsKept (record { base = e.base.items; chunks = e.chunks.items; caps = e.caps; hosts = e.hosts.items; tasks = e.tasks.items; stopped = e.stopped; leases = e.leases }) e.brokers.items e.unions.items e.proposals.items e.counts e.unfinished e.queue e.index };
 }
 
 impl Exec {
@@ -98,6 +104,7 @@ impl Exec {
             counts: Counts::new(alloc, brokers)?,
             unfinished: 0,
             queue: TaskQueue::new(alloc, brokers, none.as_slice())?,
+            index: TaskIndex::new(alloc, 0)?,
             proposals: none,
         })
     }
@@ -163,12 +170,14 @@ impl Exec {
         let unions = change::unions_of(alloc, tasks.as_slice())?;
         let copies = change::proposal_copies(alloc, proposals)?;
         let queue = TaskQueue::new(alloc, self.brokers.as_slice(), proposals)?;
+        let index = TaskIndex::new(alloc, proposals.len())?;
         self.base = base;
         self.tasks = tasks;
         self.unions = unions;
         self.proposals = copies;
         self.unfinished = proposals.len() as u32;
         self.queue = queue;
+        self.index = index;
         self.stopped = false;
         Ok(())
     }
@@ -179,16 +188,73 @@ impl Exec {
         ensures { result ≡ next_work self.now }
     {
         let tasks = self.tasks.as_slice();
-        if let Some(i) = scan::first_to_cancel(tasks) {
+        if let Some(i) = self.first_to_cancel() {
             return Ok(given(tasks, self.leases, i, Work::Cancel, false));
         }
-        if let Some(i) = scan::first_to_go_on(tasks) {
+        if let Some(i) = self.first_to_go_on() {
             return Ok(given(tasks, self.leases, i, tasks[i].next_step(), false));
         }
         if let Some(i) = self.first_to_start() {
             return Ok(given(tasks, self.leases, i, tasks[i].next_step(), true));
         }
-        Err(scan::idle(tasks))
+        Err(self.idle())
+    }
+
+    // Whether a task waits.
+    fn any_pending(&self) -> bool
+        ensures { result ≡ list_any (λ t. is_pending t.phase) self.now.tasks }
+    {
+        self.queue.any_waits()
+    }
+
+    // Why there is no work.
+    fn idle(&self) -> Idle
+        ensures { result ≡ idle self.now.tasks }
+    {
+        if self.any_pending() {
+            Idle::CapsFull
+        } else if self.is_executing() {
+            Idle::AllLeased
+        } else {
+            Idle::NoExecution
+        }
+    }
+
+    // The first task that wants its cancel.
+    fn first_to_cancel(&self) -> Option<usize>
+        ensures { result ≡ position (λ t. is_aborting t.phase && is_free t.lease) self.now.tasks }
+    {
+        self.index.first_to_cancel()
+    }
+
+    // The first task in progress with no lease out.
+    fn first_to_go_on(&self) -> Option<usize>
+        ensures { result ≡ position (λ t. is_in_progress t.phase && is_free t.lease) self.now.tasks }
+    {
+        self.index.first_to_go_on()
+    }
+
+    // The task that holds the lease.
+    fn holder(&self, lease: u64) -> Option<usize>
+        ensures { result ≡ position (holds lease) self.now.tasks }
+    {
+        self.index.holder(lease)
+    }
+
+    // The task that holds the lease for this kind of work.
+    fn holder_for(&self, lease: u64, kind: WorkKind) -> Option<usize>
+        ensures { result ≡ position (holds_for lease kind) self.now.tasks }
+    {
+        match self.holder(lease) {
+            None => None,
+            Some(i) => {
+                if self.tasks[i].holds_for(lease, kind) {
+                    Some(i)
+                } else {
+                    None
+                }
+            }
+        }
     }
 
     // The first task that may start.
@@ -227,6 +293,7 @@ impl Exec {
             .enter(task.before.as_slice(), task.after.as_slice());
         self.queue.remove(given.task);
         task.lend(given.lease, given.work);
+        self.index.note(given.task as usize, task);
         self.leases = given.lease;
     }
 
@@ -236,7 +303,9 @@ impl Exec {
         requires goes_on { given.starts ≡ false }
         ensures { self.new ≡ taken self.old (Ok given) }
     {
-        self.tasks[given.task as usize].lend(given.lease, given.work);
+        let task = &mut self.tasks[given.task as usize];
+        task.lend(given.lease, given.work);
+        self.index.note(given.task as usize, task);
         self.leases = given.lease;
     }
 
@@ -246,7 +315,7 @@ impl Exec {
         ensures { result ≡ test_lease self.now lease kind }
     {
         let tasks = self.tasks.as_slice();
-        match scan::first_holder_for(tasks, lease, kind) {
+        match self.holder_for(lease, kind) {
             None => Err(LeaseFault::Stale(self.leases)),
             Some(i) => worth(tasks, i, kind),
         }
@@ -256,8 +325,10 @@ impl Exec {
     fn end_lease(&mut self, lease: u64)
         ensures { self.new ≡ end_lease self.old lease }
     {
-        if let Some(i) = scan::first_holder(self.tasks.as_slice(), lease) {
-            self.tasks[i].release();
+        if let Some(i) = self.holder(lease) {
+            let task = &mut self.tasks[i];
+            task.release();
+            self.index.note(i, task);
         }
     }
 
@@ -270,6 +341,7 @@ impl Exec {
             Ok(i) => {
                 let task = &mut self.tasks[i as usize];
                 task.finish_copy();
+                self.index.note(i as usize, task);
                 Ok(Left(task.copies_left()))
             }
             Err(LeaseFault::AbortAsked) => {
@@ -289,6 +361,7 @@ impl Exec {
             Ok(i) => {
                 let task = &mut self.tasks[i as usize];
                 task.fail_copy();
+                self.index.note(i as usize, task);
                 Ok(Faults(task.faults))
             }
             Err(LeaseFault::AbortAsked) => {
@@ -311,6 +384,7 @@ impl Exec {
                     .leave(task.before.as_slice(), task.after.as_slice());
                 self.unfinished -= 1;
                 task.commit();
+                self.index.note(i as usize, task);
                 Ok(())
             }
             Err(LeaseFault::AbortAsked) => {
@@ -333,6 +407,7 @@ impl Exec {
                     .leave(task.before.as_slice(), task.after.as_slice());
                 self.unfinished -= 1;
                 task.cancel();
+                self.index.note(i as usize, task);
                 Ok(task.phase)
             }
             Err(LeaseFault::AbortAsked) => {
@@ -348,7 +423,7 @@ impl Exec {
         ensures state { self.new ≡ end_lease self.old lease }
         ensures reply { result ≡ give_back_reply self.old lease }
     {
-        match scan::first_holder(self.tasks.as_slice(), lease) {
+        match self.holder(lease) {
             None => Err(LeaseFault::Stale(self.leases)),
             Some(_) => {
                 self.end_lease(lease);
@@ -362,7 +437,7 @@ impl Exec {
         ensures { result ≡ held self.now lease }
     {
         let tasks = self.tasks.as_slice();
-        match scan::first_holder(tasks, lease) {
+        match self.holder(lease) {
             None => None,
             Some(i) => held_by(i, &tasks[i]),
         }
@@ -384,6 +459,7 @@ impl Exec {
         };
         change::drop_waiting(&mut self.queue, self.tasks.as_slice());
         change::stop_all(&mut self.tasks, force);
+        self.index.note_all(self.tasks.as_slice());
         self.unfinished -= aborted;
         self.stopped = true;
         Ok(Stopped { aborted, aborting })
@@ -404,6 +480,7 @@ impl Exec {
         let aborting = scan::count_going_to(self.tasks.as_slice(), broker) as u32;
         change::drop_doomed(&mut self.queue, self.tasks.as_slice(), broker);
         change::kill_all(&mut self.tasks, broker);
+        self.index.note_all(self.tasks.as_slice());
         self.unfinished -= dead;
         change::mark_all(&mut self.hosts, broker);
         Ok(Killed { dead, aborting })

@@ -1,78 +1,18 @@
 // What the executor reads off the plain lists of its tasks and brokers, from the front.
 ghost use Rattle.std.specs.Prelude.{◌≡◌, ◌<◌, ◌≤◌, ◌&&◌, ◌==◌, ℕ, None, IfOk, get_or, length, vec_len};
 ghost use Rattle.std.specs.List.{All, list_any, count_by, position};
-ghost use Rattle.exec_terms.specs.Words.{is_pending, is_in_progress, is_aborting, is_unfinished, is_free, holds, holds_for, is_on, is_replica_task, needs};
-ghost use Rattle.exec_terms.specs.Machine.{idle, any_unfinished};
+ghost use Rattle.exec_terms.specs.Words.{is_pending, is_in_progress, is_unfinished, is_on, is_replica_task, needs};
 ghost use Rattle.exec_terms.specs.Stops.{is_host, has_died};
 
-use exec_terms::{Host, Idle, Task, WorkKind};
+use exec_terms::{Host, Task};
 use plan_terms::Memory;
 use std::alloc::Global;
-
-/// The first task that wants its cancel.
-pub fn first_to_cancel(tasks: &[Task]) -> Option<usize>
-    ensures { result ≡ position (λ t. is_aborting t.phase && is_free t.lease) tasks.now }
-{
-    tasks
-        .iter()
-        .position(|t| t.phase.is_aborting() && t.is_free())
-}
-
-/// The first task in progress with no lease out.
-pub fn first_to_go_on(tasks: &[Task]) -> Option<usize>
-    ensures { result ≡ position (λ t. is_in_progress t.phase && is_free t.lease) tasks.now }
-{
-    tasks
-        .iter()
-        .position(|t| t.phase.is_in_progress() && t.is_free())
-}
-
-/// The task that holds the lease.
-pub fn first_holder(tasks: &[Task], lease: u64) -> Option<usize>
-    ensures { result ≡ position (holds lease) tasks.now }
-{
-    tasks.iter().position(|t| t.holds(lease))
-}
-
-/// The task that holds the lease for this kind of work.
-pub fn first_holder_for(tasks: &[Task], lease: u64, kind: WorkKind) -> Option<usize>
-    ensures { result ≡ position (holds_for lease kind) tasks.now }
-{
-    tasks.iter().position(|t| t.holds_for(lease, kind))
-}
 
 /// The first task that has not ended.
 pub fn first_unfinished(tasks: &[Task]) -> Option<usize>
     ensures { result ≡ position (λ t. is_unfinished t.phase) tasks.now }
 {
     tasks.iter().position(|t| t.phase.is_unfinished())
-}
-
-/// Whether a task waits.
-pub fn any_pending(tasks: &[Task]) -> bool
-    ensures { result ≡ list_any (λ t. is_pending t.phase) tasks.now }
-{
-    tasks.iter().any(|t| t.phase.is_pending())
-}
-
-/// Whether a task has not ended.
-pub fn any_unfinished(tasks: &[Task]) -> bool
-    ensures { result ≡ any_unfinished tasks.now }
-{
-    tasks.iter().any(|t| t.phase.is_unfinished())
-}
-
-/// Why there is no work.
-pub fn idle(tasks: &[Task]) -> Idle
-    ensures { result ≡ idle tasks.now }
-{
-    if any_pending(tasks) {
-        Idle::CapsFull
-    } else if any_unfinished(tasks) {
-        Idle::AllLeased
-    } else {
-        Idle::NoExecution
-    }
 }
 
 /// How many tasks wait.

@@ -4,12 +4,15 @@ ghost use Rattle.std.specs.List.{All, list_any};
 ghost use Rattle.plan_terms.specs.Belongs.{Belongs};
 ghost use Rattle.plan_terms.specs.Legal.{is_lost};
 
+mod random;
+
 use super::*;
 use crate::alone::launched;
 use cap_ledger::Caps;
 use exec_terms::{Given, Work};
 use load_model::{Assign, Broker, BrokerState, Case, Loads, Options, Part, Ratio, Topic};
 use plan_terms::{Memory, MinLeadersList, Replicas};
+use random::RANDOM;
 use std::alloc::Global;
 use std::fmt::Debug;
 use std::process::Abort;
@@ -215,6 +218,41 @@ fn answer(rt: &impl Abort, alloc: Global, exec: &mut Exec, call: &Call) -> Resul
         Call::Settled(part) => member(alloc, &exec.settled_lists(alloc)?, *part),
         Call::Adding(broker) => say(alloc, &exec.counts().adding(*broker)),
         _ => work(rt, alloc, exec, call),
+    }
+}
+
+// A test of a lease answers as the plain scan of the tasks does.
+fn test_as_plain(
+    rt: &impl Abort,
+    alloc: Global,
+    exec: &Exec,
+    lease: u64,
+    kind: WorkKind,
+) -> Result<(), Fail> {
+    let got = say(alloc, &exec.test_lease(lease, kind))?;
+    let want = say(alloc, &exec.plain_test_lease(lease, kind))?;
+    assert_eq!(rt; got.as_str(), want.as_str());
+    let got = say(alloc, &exec.held(lease))?;
+    let want = say(alloc, &exec.plain_held(lease))?;
+    assert_eq!(rt; got.as_str(), want.as_str());
+    Ok(())
+}
+
+// The executor is to answer the call as plain scans of its tasks do.
+fn answer_as_plain(rt: &impl Abort, alloc: Global, exec: &Exec, call: &Call) -> Result<(), Fail> {
+    assert!(rt; exec.leases() < 100);
+    let got = say(alloc, &exec.next_work())?;
+    let want = say(alloc, &exec.plain_next_work())?;
+    assert_eq!(rt; got.as_str(), want.as_str());
+    match call {
+        Call::Copied(lease) | Call::CopyFailed(lease) => {
+            test_as_plain(rt, alloc, exec, *lease, WorkKind::Copy)
+        }
+        Call::Commit(lease) => test_as_plain(rt, alloc, exec, *lease, WorkKind::Commit),
+        Call::Cancel(lease) | Call::GiveBack(lease) | Call::Held(lease) => {
+            test_as_plain(rt, alloc, exec, *lease, WorkKind::Cancel)
+        }
+        _ => Ok(()),
     }
 }
 
@@ -438,6 +476,20 @@ fn answers_each_call(rt: HostRuntime) -> Result<(), Fail> {
     for (broker, whole, from, to, rows) in &EXECUTIONS {
         let mut exec = moving(&rt, alloc, *broker, 1, *whole, *from, *to)?;
         play(&rt, alloc, &mut exec, rows)?;
+    }
+    Ok(())
+}
+
+#[test]
+fn answers_random_executions_as_plain_scans_do(rt: HostRuntime) -> Result<(), Fail> {
+    let alloc = rt.alloc();
+    for (broker, chunks, from, to, rows) in &RANDOM {
+        let mut exec = moving(&rt, alloc, *broker, *chunks, false, *from, *to)?;
+        for (call, want) in rows.iter() {
+            answer_as_plain(&rt, alloc, &exec, call)?;
+            let got = answer(&rt, alloc, &mut exec, call)?;
+            assert_eq!(rt; got.as_str(), *want);
+        }
     }
     Ok(())
 }

@@ -106,6 +106,26 @@ none-counted p (x ∷ xs) = by (none-counted p xs) (p x) refl where
   by rest true e = rw (sum_by-cons (λ y. cond (p y) 1 0) x xs, e) (grind (arith, nat_tests))
   by rest false e = rw (sum_by-cons (λ y. cond (p y) 1 0) x xs, e, zero-add) rest
 
+-- some task passes exactly where their number is not 0
+pub some-counted : (p : Slot → Bool) (slots : List Slot) → nat_lt 0 (count_by p slots) ≡ list_any p slots
+some-counted p [] = refl
+some-counted p (x ∷ xs) = by (some-counted p xs) (p x) refl where
+  by : nat_lt 0 (count_by p xs) ≡ list_any p xs → (b : Bool) → p x ≡ b → nat_lt 0 (count_by p (x ∷ xs)) ≡ (p x || list_any p xs)
+  by rest true e = rw (sum_by-cons (λ y. cond (p y) 1 0) x xs, e) (grind (arith, nat_tests))
+  by rest false e = rw (sum_by-cons (λ y. cond (p y) 1 0) x xs, e, zero-add) rest
+
+-- one that waited ends: there is one less
+pub waiting-left : (slots : List Slot) (i : ℕ) (x y : Slot) (waiting : ℕ) → i < length slots → x ≡ get_or slots i x → (slot_at slots i).waits ≡ true → y ≡ ended x → waiting ≡ count_by (λ s. s.waits) slots
+    → (1 ≤ waiting) × (waiting - 1 ≡ count_by (λ s. s.waits) (set slots i y))
+waiting-left slots i x y waiting l read waits is counted =
+    let here : (get_or slots i x).waits ≡ true = ap (λ (s : Slot). s.waits) (sym read ∙ get_or_read slots i x l read no_slot) ∙ waits in
+    let was : ◌≡◌ {A = ℕ} (cond (get_or slots i x).waits 1 0) 1 = ap (λ (b : Bool). one_if b) here in
+    let now : ◌≡◌ {A = ℕ} (cond y.waits 1 0) 0 = ap (λ (s : Slot). one_if s.waits) is in
+    let sum = sum_by-set (λ (s : Slot). one_if s.waits) slots i y x l in
+    (omega (arith, sum, was, now, counted), omega (arith, sum, was, now, counted)) where
+      one_if : Bool → ℕ
+      one_if b = cond b 1 0
+
 -- a task that fits waits
 pub fits-waits : (caps : Caps) (l : Ledger) (lead : Bool) (s : Slot) → fits_slot caps l lead s ≡ true → s.waits ≡ true
 fits-waits caps l lead s h = (and_parts s.waits (fits_in l caps s.before s.after) (and_parts (s.waits && fits_in l caps s.before s.after) (lead || differ s.before s.after) h).0).0

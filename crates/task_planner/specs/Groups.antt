@@ -101,3 +101,8 @@ pub record AreGroups (slots : List Slot) (groups : List Filing) (movers : ℕ) :
   pub filed : (i : ℕ) → i < length slots → (slot_at slots i).waits ≡ true → IsFiled groups i
   pub apart : AreApart groups
   pub movers_are : movers ≡ count_by moves slots
+
+-- the groups, and how many tasks wait
+pub record AreQueued (slots : List Slot) (groups : List Filing) (movers waiting : ℕ) : Type 0 where
+  pub filed : AreGroups slots groups movers
+  pub waiting_are : waiting ≡ count_by (λ s. s.waits) slots

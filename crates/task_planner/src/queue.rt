@@ -1,6 +1,6 @@
 // The queue of tasks.
 ghost use Rattle.std.specs.Prelude.{◌≡◌, ◌<◌, ◌≤◌, ◌^◌, ℕ, true, IsTrue, None, IfOk, IfSome, OnOk, length, map, slice_set, if◌then◌else◌};
-ghost use Rattle.std.specs.List.{All, count_by};
+ghost use Rattle.std.specs.List.{All, count_by, list_any};
 ghost use Rattle.plan_terms.specs.Belongs.{distinct};
 ghost use Rattle.task_planner.specs.Groups.{AreGroupsTo, Files, IsFiled, IsGroup, group_at};
 ghost use Rattle.task_planner.specs.Queue.{slot_at, ended, waiting, may_lead, moves, fits_slot, first_fitting, AreListsOf};
@@ -22,18 +22,20 @@ pub struct TaskQueue {
     groups: Vec<Group>,
     // How many tasks that move replicas wait.
     movers: usize,
+    // How many tasks wait.
+    waiting: usize,
 }
 
 impl Model for TaskQueue {
     ghost use Rattle.std.specs.Prelude.{List};
-    ghost use Rattle.task_planner.specs.Groups.{AreGroups};
+    ghost use Rattle.task_planner.specs.Groups.{AreQueued};
     ghost use Rattle.task_planner.specs.declared.slot.Slot.{Slot};
 
     ghost Value = { List Slot };
 
     ghost view = { λ q. q.slots.items };
 
-    ghost invariant = { λ q. AreGroups q.slots.items q.groups.items q.movers };
+    ghost invariant = { λ q. AreQueued q.slots.items q.groups.items q.movers q.waiting };
 }
 
 impl TaskQueue {
@@ -47,11 +49,20 @@ impl TaskQueue {
         let slots = waiting_slots(alloc, proposals)?;
         let groups = groups_of(alloc, slots.as_slice())?;
         let movers = count_moves(slots.as_slice());
+        let waiting = count_waiting(slots.as_slice());
         Ok(TaskQueue {
             slots,
             groups,
             movers,
+            waiting,
         })
+    }
+
+    /// Whether a task waits.
+    pub fn any_waits(&self) -> bool
+        ensures { result ≡ list_any (λ s. s.waits) self.now }
+    {
+        self.waiting > 0
     }
 
     /// The first task that waits and fits. One that changes a leader alone fits only where no task that moves replicas is in
@@ -87,6 +98,7 @@ impl TaskQueue {
         let slot = &mut self.slots[task as usize];
         let key = slot.key();
         self.movers -= one_if(slot.moves());
+        self.waiting -= 1;
         slot.end();
         if let Some(place) = place_of(self.groups.as_slice(), key) {
             self.groups[place].advance(self.slots.as_slice());
@@ -123,6 +135,13 @@ fn count_moves(slots: &[Slot]) -> usize
     ensures { result ≡ count_by moves slots.now }
 {
     slots.iter().filter(|s| s.moves()).count()
+}
+
+// How many tasks wait.
+fn count_waiting(slots: &[Slot]) -> usize
+    ensures { result ≡ count_by (λ s. s.waits) slots.now }
+{
+    slots.iter().filter(|s| s.waits).count()
 }
 
 // The place of the group with this key.
