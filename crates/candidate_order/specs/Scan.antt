@@ -1,7 +1,7 @@
 -- What is known before candidates are tried.
-use Rattle.std.specs.Prelude.{◌≡◌, ℕ, ◌<◌, List, Option, map, length, get_or}
+use Rattle.std.specs.Prelude.{◌≡◌, ℕ, ◌<◌, Bool, true, List, Option, map, length, get_or}
 use Rattle.std.specs.List.{All, filter}
-use Rattle.plan_terms.specs.Cluster.{Cluster}
+use Rattle.plan_terms.specs.Cluster.{Cluster, has}
 use Rattle.plan_terms.specs.declared.cluster.Part.{Part}
 use Rattle.goal_terms.specs.PerBroker.{ids_of}
 use Rattle.goal_terms.specs.Quantity.{Weights}
@@ -27,9 +27,15 @@ pub record AreBelow {X : Type 0} (weighs : X → Option Weights) (room : X → �
   pub brokers_are : map (λ (r : Row). r.id) rows ≡ filter (λ b. is_below (heat b)) (ids_of c.brokers)
   pub rows_are : All (IsRow weighs room heat earlier) rows
 
+-- the partitions whose actions may help the goal are among these
+pub record AreStirring (stirs : ℕ → Bool) (parts : List Part) (xs : List ℕ) : Type 0 where
+  pub within : All (λ p. p < length parts) xs
+  pub each : (p : ℕ) → p < length parts → stirs p ≡ true → has xs p ≡ true
+
 -- of all partitions, and of the brokers in their order
-pub record IsScan {X : Type 0} (weighs : X → Option Weights) (room : X → ℕ → Room) (heat : ℕ → Heat) (earlier : List X) (c : Cluster) (s : Scan) : Type 0 where
+pub record IsScan {X : Type 0} (weighs : X → Option Weights) (room : X → ℕ → Room) (heat : ℕ → Heat) (stirs : ℕ → Bool) (earlier : List X) (c : Cluster) (s : Scan) : Type 0 where
   pub weights_are : AreWeights weighs earlier c.parts s.weights.items
   pub brokers_are : map (λ (r : Row). r.id) s.rows.items ≡ ids_of c.brokers
   pub rows_are : All (IsRow weighs room heat earlier) s.rows.items
   pub below_are : AreBelow weighs room heat earlier c s.below.items
+  pub stirring_are : AreStirring stirs c.parts s.stirring.items

@@ -3,11 +3,13 @@ ghost use Rattle.std.specs.Prelude.{◌≡◌, ◌<◌, ℕ, true, false, IfOk, 
 ghost use Rattle.std.specs.List.{All};
 ghost use Rattle.candidate_order.specs.Looks.{is_below, is_cold, look_weight, look_whole, IsWeighed};
 ghost use Rattle.candidate_order.specs.declared.kept.Row.{Row};
-ghost use Rattle.candidate_order.specs.Scan.{AreBelow, AreWeights, IsRow, IsScan};
+ghost use Rattle.candidate_order.specs.Scan.{AreBelow, AreStirring, AreWeights, IsRow, IsScan};
 ghost use Rattle.goal_terms.specs.declared.heat.Heat.TheVariants as heat;
 ghost use Rattle.goal_terms.specs.PerBroker.{id_at, ids_of};
 ghost use Rattle.plan_terms.specs.Belongs.{IsBookOf};
+ghost use Rattle.plan_terms.specs.Cluster.{is_known};
 
+use crate::order::broker_place;
 use crate::looks::{rooms_of, weights_of, wholes_of};
 use load_model::{Case, LoadBook, Memory};
 use move_actions::{Goal, Heat, Room};
@@ -40,6 +42,8 @@ pub struct Scan {
     pub rows: Vec<Row>,
     /// Of the brokers that lie below their bounds, in their order.
     pub below: Vec<Row>,
+    /// The partitions whose actions may help the goal at hand.
+    pub stirring: Vec<u32>,
 }
 
 // What the places of one partition weigh.
@@ -205,8 +209,52 @@ impl Scan {
             weights,
             rows: Vec::new(alloc),
             below: Vec::new(alloc),
+            stirring: Vec::new(alloc),
         })
     }
+}
+
+/// The partitions whose actions may help the goal.
+pub fn all_stirring<G: Goal>(
+    alloc: Global,
+    case: &Case,
+    book: &LoadBook,
+    goal: &G,
+) -> Result<Vec<u32>, Memory>
+    requires made_goal { G.made_for goal.now case.now }
+    requires belongs { IsBookOf case.now book.now }
+    ensures { IfOk result (λ v. AreStirring (G.stirs_at goal.now case.now book.now.lists) case.now.parts v.items) }
+{
+    let mut stirring = Vec::new(alloc);
+    let end = case.parts().len() as u32;
+    for part in 0..end {
+        if goal.stirs(case, book, part) {
+            stirring.push(part)?;
+        }
+    }
+    Ok(stirring)
+}
+
+// The row of a broker of the case.
+pub(crate) fn row_of<'a, G: Goal>(
+    case: &Case,
+    book: &LoadBook,
+    earlier: &[G],
+    goal: &G,
+    scan: &'a Scan,
+    broker: u32,
+) -> &'a Row
+    requires scan { IsScan G.weighs (λ g. G.room_at g case.now book.now.lists) (G.heat_at goal.now case.now book.now.lists) (G.stirs_at goal.now case.now book.now.lists) earlier.now case.now scan.now }
+    requires known { IsTrue (is_known case.now broker) }
+    ensures id { result.now.id ≡ broker }
+    ensures row { IsRow G.weighs (λ g. G.room_at g case.now book.now.lists) (G.heat_at goal.now case.now book.now.lists) earlier.now result.now }
+{
+    let _brokers = case.brokers();
+    let _lists = book.lists();
+    let _goals = earlier.len();
+    let rows = scan.rows.as_slice();
+    let place = broker_place(case, broker);
+    &rows[place]
 }
 
 fn is_cold(heat: Heat) -> bool

@@ -179,7 +179,7 @@ pub fn first_anywhere<G: Goal>(
     requires made { All (λ g. G.made_for g case.now) earlier.now }
     requires made_goal { G.made_for goal.now case.now }
     requires belongs { IsBookOf case.now book.now }
-    requires scan { IsScan G.weighs (λ g. G.room_at g case.now book.now.lists) (G.heat_at goal.now case.now book.now.lists) earlier.now case.now scan.now }
+    requires scan { IsScan G.weighs (λ g. G.room_at g case.now book.now.lists) (G.heat_at goal.now case.now book.now.lists) (G.stirs_at goal.now case.now book.now.lists) earlier.now case.now scan.now }
     requires part { part < length case.now.parts }
     requires source { IsRow G.weighs (λ g. G.room_at g case.now book.now.lists) (G.heat_at goal.now case.now book.now.lists) earlier.now source.now }
     requires weights { weights.now ≡ map (λ g. look_weight (G.weighs g) case.now.parts part (leads (list_of book.now.lists part) source.now.id)) earlier.now }

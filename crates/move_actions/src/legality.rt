@@ -61,7 +61,8 @@ fn may_gain(case: &Case, broker: u32) -> bool
     is_new(case, broker) || !case.any_new()
 }
 
-fn is_open(case: &Case, part: u32) -> bool
+/// Whether it is a partition of the case whose topic isn't excluded.
+pub fn is_open(case: &Case, part: u32) -> bool
     ensures { result ≡ is_open case.now.parts part }
 {
     let parts = case.parts();
