@@ -7,7 +7,7 @@ ghost use Rattle.candidate_order.specs.Scan.{AreWeights, IsScan};
 ghost use Rattle.plan_terms.specs.Belongs.{IsBookOf};
 ghost use Rattle.plan_terms.specs.Trace.{NoneLeft};
 
-use crate::kept::{Scan, all_below, all_cold, all_rows, all_stirring};
+use crate::kept::{Choice, Scan, all_below, all_chosen, all_cold, all_rows, all_stirring};
 use crate::nexts::next_in;
 use crate::order::Order;
 use crate::plain::Kind;
@@ -81,5 +81,8 @@ pub fn next_lessening<G: Goal>(
     }
     scan.rows = all_rows(alloc, case, book, earlier, goal)?;
     scan.below = all_below(alloc, case, book, earlier, goal, scan.rows.as_slice())?;
+    scan.added = all_chosen(
+        alloc, case, book, earlier, goal, scan.rows.as_slice(), Choice::New,
+    )?;
     Ok(first_candidate(case, book, order, earlier, goal, scan))
 }

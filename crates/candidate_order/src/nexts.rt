@@ -3,6 +3,7 @@ ghost use Rattle.std.specs.Prelude.{◌≡◌, ◌<◌, ℕ, MatchOption, map, l
 ghost use Rattle.std.specs.List.{All, flat_map};
 ghost use Rattle.candidate_order.specs.CandidateList.{candidates_at, candidates_in, NoStep};
 ghost use Rattle.candidate_order.specs.First.{IsFirst};
+ghost use Rattle.candidate_order.specs.Looks.{weighs_nothing};
 ghost use Rattle.candidate_order.specs.Order.{IsOrderOf};
 ghost use Rattle.candidate_order.specs.Scan.{IsRow, IsScan};
 ghost use Rattle.candidate_order.specs.declared.plain.Kind.TheVariants as kind;
@@ -18,6 +19,13 @@ use crate::rows::first_anywhere;
 use crate::swaps::first_swap;
 use load_model::{Case, LoadBook};
 use move_actions::{Action, Goal};
+
+// Whether the goal has a quantity, and nothing of it goes.
+fn weighs_nothing(own: Option<u64>) -> bool
+    ensures { result ≡ weighs_nothing own }
+{
+    own == Some(0)
+}
 
 // The first move of one replica that serves.
 fn first_move<G: Goal>(
@@ -46,6 +54,9 @@ fn first_move<G: Goal>(
     }
     let first = is_first(book.list(part as usize), source.id);
     let own = goal.weight(case, part, first);
+    if weighs_nothing(own) {
+        return None;
+    }
     let weights = column(case, earlier, scan.weights.as_slice(), part, first);
     first_anywhere(case, book, earlier, goal, scan, part, source, weights, own)
 }

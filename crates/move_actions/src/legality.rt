@@ -46,7 +46,8 @@ pub fn is_lost(case: &Case, broker: u32) -> bool
     }
 }
 
-fn is_new(case: &Case, broker: u32) -> bool
+/// Whether the broker is one of the case, and being added.
+pub fn is_new(case: &Case, broker: u32) -> bool
     ensures { result ≡ some_broker (λ x. is_new x.state) case.now broker }
 {
     match case.broker(broker) {
