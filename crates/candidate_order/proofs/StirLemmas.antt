@@ -1,11 +1,10 @@
 -- Partitions whose actions may help.
-use Rattle.std.specs.Prelude.{◌==◌, ◌||◌, IsTrue}
+use Rattle.std.specs.Prelude.{◌==◌, IsTrue}
 use Rattle.std.proofs.Common.{◌≡◌, ℕ, ◌+◌, ◌<◌, Bool, true, false, List, [], ◌∷◌, ◌++◌, length, get_or, refl, ap, ◌∙◌, sym, arith, inl, inr, eq-eqb}
 use Rattle.std.specs.List.{filter}
 use Rattle.std.proofs.lemmas.List.Elements.{filter_passes}
 use Rattle.std.proofs.lemmas.Bool.{cases_Bool, cases_eq, ne_eqb, false≢true, or_right}
 use Rattle.plan_terms.proofs.EffectLemmas.{fits-legal, fits-Move, fits-Lead, fits-Swap}
-use Rattle.plan_terms.specs.Belongs.{Belongs}
 use Rattle.plan_terms.specs.Cluster.{Cluster, Lists, has}
 use Rattle.plan_terms.specs.Fits.{fits}
 use Rattle.plan_terms.specs.Goal.{Meaning}

@@ -1,5 +1,5 @@
 -- Swaps that are not legal, or cannot help.
-use Rattle.std.specs.Prelude.{not, ◌&&◌, nat_lt, IfSome, IsTrue, option_map, Option, Some, None}
+use Rattle.std.specs.Prelude.{not, IfSome, IsTrue, option_map, Option, Some, None}
 use Rattle.std.proofs.Common.{◌≡◌, ℕ, ◌<◌, List, [], ◌∷◌, get_or, false, true, inl, inr, arith}
 use Rattle.std.proofs.lemmas.Bool.{cases_lt, lt-ltb, le-ltb, and_parts, and_from, or_parts, not-false, false≢true, eqb-true}
 use Rattle.std.proofs.lemmas.Bool.Decides.{nat_tests}

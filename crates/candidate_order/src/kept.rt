@@ -9,8 +9,8 @@ ghost use Rattle.goal_terms.specs.PerBroker.{id_at, ids_of};
 ghost use Rattle.plan_terms.specs.Belongs.{IsBookOf};
 ghost use Rattle.plan_terms.specs.Cluster.{is_known};
 
-use crate::order::broker_place;
 use crate::looks::{rooms_of, weights_of, wholes_of};
+use crate::order::broker_place;
 use load_model::{Case, LoadBook, Memory};
 use move_actions::{Goal, Heat, Room, is_new};
 use std::alloc::Global;

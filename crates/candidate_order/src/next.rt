@@ -82,7 +82,13 @@ pub fn next_lessening<G: Goal>(
     scan.rows = all_rows(alloc, case, book, earlier, goal)?;
     scan.below = all_below(alloc, case, book, earlier, goal, scan.rows.as_slice())?;
     scan.added = all_chosen(
-        alloc, case, book, earlier, goal, scan.rows.as_slice(), Choice::New,
+        alloc,
+        case,
+        book,
+        earlier,
+        goal,
+        scan.rows.as_slice(),
+        Choice::New,
     )?;
     Ok(first_candidate(case, book, order, earlier, goal, scan))
 }

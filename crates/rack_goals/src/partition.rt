@@ -3,13 +3,12 @@ ghost use Rattle.goal_terms.specs.Heats.{has_excess};
 ghost use Rattle.goal_terms.specs.declared.heat.Heat.TheVariants as heat;
 ghost use Rattle.goal_terms.specs.PerBroker.{id_at};
 ghost use Rattle.goal_terms.specs.Rooms.{free};
-ghost use Rattle.std.specs.List.{list_any};
-ghost use Rattle.std.specs.Prelude.{◌≡◌, ℕ, Bool, ◌<◌, ◌≤◌, ◌^◌, ◌↔◌, ◌&&◌, nat_lt, IsTrue, List, length, take, slice_set, false, ◌+◌, None};
+ghost use Rattle.std.specs.Prelude.{◌≡◌, ℕ, Bool, ◌<◌, ◌≤◌, ◌^◌, ◌↔◌, IsTrue, List, length, take, slice_set, false, ◌+◌, None};
 ghost use Rattle.plan_terms.specs.Cluster.{Cluster, Lists, list_of, has, leads};
 ghost use Rattle.plan_terms.specs.Effect.{replace, exchange_first, after};
 ghost use Rattle.plan_terms.specs.Goal.{Meaning, Accepts, Lessens, per_partition};
 
-use load_model::{Case, LoadBook, Replicas};
+use load_model::{Case, LoadBook};
 use move_actions::{Goal, Heat, Room, place_of};
 use plan_terms::Action;
 

@@ -53,6 +53,6 @@ returns-then-not-some_lead_serves g c =
     let p = c.args.part in
     All-map (λ a. Step case (map (λ x. g.G.Goal.meaning x case) c.args.earlier.now) (g.G.Goal.meaning c.args.goal.now case) lists a → ⊥) (λ (y : Broker). Lead p y.id) case.brokers
     (λ k y l s.
-        let b = (get_or case.brokers k y).id in
-        All-has (λ (z : ℕ). Step case (map (λ x. g.G.Goal.meaning x case) c.args.earlier.now) (g.G.Goal.meaning c.args.goal.now case) lists (Lead p z) → ⊥) (list_of lists p) b
-        (c.if-not-some_lead_serves.ensures refl) (fits-Lead lists p b (fits-legal case lists (Lead p b) s.legal)).member s)
+    let b = (get_or case.brokers k y).id in
+    All-has (λ (z : ℕ). Step case (map (λ x. g.G.Goal.meaning x case) c.args.earlier.now) (g.G.Goal.meaning c.args.goal.now case) lists (Lead p z) → ⊥) (list_of lists p) b
+    (c.if-not-some_lead_serves.ensures refl) (fits-Lead lists p b (fits-legal case lists (Lead p b) s.legal)).member s)

@@ -1,4 +1,4 @@
-use Rattle.std.proofs.Common.{◌≡◌, ◌<◌, ℕ, map, length, arith, sym, ◌∙◌}
+use Rattle.std.proofs.Common.{◌≡◌, map, length, arith, sym, ◌∙◌}
 use Rattle.std.proofs.lemmas.Bool.{eqb-true}
 use Rattle.candidate_order.proofs.StirLemmas.{none-still, none-stirs}
 use Rattle.candidate_order.proofs.next.next_lessening.Goals as goal

@@ -26,9 +26,9 @@ returns-then-weighs_nothing g c =
     let hot = g.G.Goal.heat_at c.args.goal.now case lists in
     All-map (λ x. Step case (map (λ x. g.G.Goal.meaning x case) c.args.earlier.now) (g.G.Goal.meaning c.args.goal.now case) lists x → ⊥) (λ (y : Broker). Move p a y.id) case.brokers
     (λ k y l s.
-        let b = (get_or case.brokers k y).id in
-        idle-move (g.G.Goal.weighs c.args.goal.now) (g.G.Goal.meaning c.args.goal.now case) hot case.parts lists
-        (g.met.G.Goal.cold_pairs c.args.goal.now case lists c.requires.made_goal c.brokers-brokers.ensures.case c.requires.belongs.lists_belong)
-        (g.met.G.Goal.idle_trades c.args.goal.now case lists c.requires.made_goal c.brokers-brokers.ensures.case c.requires.belongs.lists_belong)
-        p a b (fits-legal case lists (Move p a b) s.legal)
-        (rw (← c.list.ensures, ← c.is_first-first.ensures, ← c.weight-own.ensures) (nothing-helps c.weight-own.result (hot a) (hot b) (sym c.if-weighs_nothing.ensures))) s.lessens)
+    let b = (get_or case.brokers k y).id in
+    idle-move (g.G.Goal.weighs c.args.goal.now) (g.G.Goal.meaning c.args.goal.now case) hot case.parts lists
+    (g.met.G.Goal.cold_pairs c.args.goal.now case lists c.requires.made_goal c.brokers-brokers.ensures.case c.requires.belongs.lists_belong)
+    (g.met.G.Goal.idle_trades c.args.goal.now case lists c.requires.made_goal c.brokers-brokers.ensures.case c.requires.belongs.lists_belong)
+    p a b (fits-legal case lists (Move p a b) s.legal)
+    (rw (← c.list.ensures, ← c.is_first-first.ensures, ← c.weight-own.ensures) (nothing-helps c.weight-own.result (hot a) (hot b) (sym c.if-weighs_nothing.ensures))) s.lessens)

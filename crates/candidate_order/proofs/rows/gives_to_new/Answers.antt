@@ -1,5 +1,5 @@
 use Rattle.std.proofs.Common.{sym, ◌∙◌}
-use Rattle.std.proofs.lemmas.Bool.{false≢true, not-true}
+use Rattle.std.proofs.lemmas.Bool.{not-true}
 use Rattle.candidate_order.proofs.LookLemmas.{move-gains}
 use Rattle.candidate_order.proofs.rows.gives_to_new.Goals as goal
 

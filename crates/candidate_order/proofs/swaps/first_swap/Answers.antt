@@ -59,4 +59,4 @@ returns-then-not-may_serve g c =
     let P = Step case (map (λ x. g.G.Goal.meaning x case) c.args.earlier.now) (g.G.Goal.meaning c.args.goal.now case) lists in
     none-flat P (λ (y : Broker). map (λ q. Swap c.args.part c.args.source.now.id q y.id) (replicas_of case lists y.id)) case.brokers
     (λ k y l. All-map (λ x. P x → ⊥) (λ (q : ℕ). Swap c.args.part c.args.source.now.id q (get_or case.brokers k y).id) (replicas_of case lists (get_or case.brokers k y).id)
-        (λ j d m s. c.if-not-may_serve.ensures refl (get_or (replicas_of case lists (get_or case.brokers k y).id) j d) (get_or case.brokers k y).id s))
+    (λ j d m s. c.if-not-may_serve.ensures refl (get_or (replicas_of case lists (get_or case.brokers k y).id) j d) (get_or case.brokers k y).id s))

@@ -1,4 +1,4 @@
-use Rattle.std.proofs.Common.{◌≡◌, ℕ, ◌<◌, map, refl, sym, true, false, inl, inr, arith}
+use Rattle.std.proofs.Common.{ℕ, map, refl, inl, inr, arith}
 use Rattle.std.specs.List.{All}
 use Rattle.std.proofs.lemmas.Bool.{cases_Bool}
 use Rattle.plan_terms.proofs.EffectLemmas.{fits-legal, fits-Swap}

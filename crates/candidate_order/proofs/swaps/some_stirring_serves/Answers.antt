@@ -1,4 +1,4 @@
-use Rattle.std.proofs.Common.{map, ℕ, get_or, refl}
+use Rattle.std.proofs.Common.{map, ℕ, refl}
 use Rattle.std.specs.List.{All}
 use Rattle.std.proofs.lemmas.List.{take_all}
 use Rattle.std.proofs.lemmas.List.Elements.{All-more}
