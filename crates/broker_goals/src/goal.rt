@@ -4,7 +4,7 @@ ghost use Rattle.goal_terms.specs.PerBroker.{broker_excess, per_broker, id_at, u
 ghost use Rattle.goal_terms.specs.Quantity.{part_weight};
 ghost use Rattle.goal_terms.specs.Rooms.{broker_room};
 ghost use Rattle.goal_terms.specs.Sides.{sides};
-ghost use Rattle.std.specs.Prelude.{◌≡◌, ◌+◌, ◌<◌, ◌≤◌, ◌^◌, IfOk, IsTrue, Some, get_or, length, map};
+ghost use Rattle.std.specs.Prelude.{◌≡◌, ◌+◌, ◌<◌, ◌≤◌, ◌^◌, IfOk, IsTrue, true, Some, get_or, length, map};
 
 use crate::amount::{Amount, NewAmount};
 use crate::band::{Band, NewBand};
@@ -58,7 +58,7 @@ impl<A: NewAmount, B: NewBand, S: Strength> BrokerGoal<A, B, S> {
 impl<A: Amount, B: Band, S: Strength> Goal for BrokerGoal<A, B, S> {
     ghost use Rattle.goal_terms.proofs.BoundLemmas.{per_broker-fits_120_bits};
     ghost use Rattle.goal_terms.proofs.CaseLemmas.{Limits-case};
-    ghost use Rattle.goal_terms.proofs.PairLemmas.{broker-cold_pairs, broker-idle_trades};
+    ghost use Rattle.goal_terms.proofs.PairLemmas.{broker-cold_pairs, broker-idle_trades, stirred-still_parts};
     ghost use Rattle.goal_terms.proofs.RoomLemmas.{broker-rooms_decide, broker-rooms_stay};
 
     ghost meaning = { λ g c. per_broker S.HARD (A.weights g.kind) (B.bounds g.band c) c };
@@ -68,6 +68,8 @@ impl<A: Amount, B: Band, S: Strength> Goal for BrokerGoal<A, B, S> {
     ghost heat_at = { λ g c lists k. broker_heat (A.weights g.kind) (B.bounds g.band c) c lists k };
 
     ghost room_at = { λ g c lists k. broker_room (A.weights g.kind) (B.bounds g.band c) c lists k };
+
+    ghost stirs_at = { λ _ _ _ _. true };
 
     ghost weighs = { λ g. Some (A.weights g.kind) };
 
@@ -100,6 +102,10 @@ impl<A: Amount, B: Band, S: Strength> Goal for BrokerGoal<A, B, S> {
         heat_at_place(&self.kind, &self.band, case, book, broker)
     }
 
+    fn stirs(&self, _case: &Case, _book: &LoadBook, _part: u32) -> bool {
+        true
+    }
+
     fn weight(&self, case: &Case, part: u32, leads: bool) -> Option<u64> {
         Some(place_weight(&self.kind, case, part, leads))
     }
@@ -115,6 +121,8 @@ impl<A: Amount, B: Band, S: Strength> Goal for BrokerGoal<A, B, S> {
     ghost small = { λ g c lists made is_case fits. let limits = Limits-case c is_case in per_broker-fits_120_bits (A.weights g.kind) c lists limits (λ k d l. A.small_weights g.kind (get_or c.parts k d) (limits.loads k d l)) fits S.HARD (B.bounds g.band c) (B.small_bounds g.band c made.1 is_case) };
 
     ghost cold_pairs = { λ g c lists _ is_case fits. broker-cold_pairs S.HARD (A.weights g.kind) (B.bounds g.band c) c lists (Limits-case c is_case) fits };
+
+    ghost still_parts = { λ g c lists _ _ _. stirred-still_parts (per_broker S.HARD (A.weights g.kind) (B.bounds g.band c) c) lists };
 
     ghost idle_trades = { λ g c lists _ is_case fits. broker-idle_trades S.HARD (A.weights g.kind) (B.bounds g.band c) c lists (Limits-case c is_case) fits };
 

@@ -1,7 +1,9 @@
 -- The leads of a partition, by the rows of the brokers.
 use Rattle.std.specs.Prelude.{List, Option, Some, None}
-use Rattle.std.proofs.Common.{◌≡◌, ℕ, true, false, [], ◌∷◌, map, refl, ap, ◌∙◌, sym}
-use Rattle.plan_terms.specs.Cluster.{Cluster, Lists}
+use Rattle.std.proofs.Common.{◌≡◌, ℕ, suc, true, false, [], ◌∷◌, map, refl, ap, ◌∙◌, sym, subst, arith, inl, inr}
+use Rattle.std.specs.List.{All}
+use Rattle.std.proofs.lemmas.Bool.{cases_eq, ne_eqb, false≢true}
+use Rattle.plan_terms.specs.Cluster.{Cluster, Lists, has}
 use Rattle.plan_terms.specs.Legal.{leads_of}
 use Rattle.plan_terms.specs.declared.cluster.Broker.{Broker}
 use Rattle.plan_terms.specs.declared.actions.Action.TheVariants.{Lead}
@@ -35,3 +37,11 @@ lead-outs weighs parts lists p b = same-map _ _ (λ x. out-is parts lists p b (w
 pub lead-backs : {X : Type 0} (weighs : X → Option Weights) (parts : List Part) (lists : Lists) (p b : ℕ) (xs : List X)
     → map (λ x. look_weight (weighs x) parts p false) xs ≡ map (λ x. look_back (weighs x) parts lists (Lead p b)) xs
 lead-backs weighs parts lists p b = same-map _ _ (λ x. back-is parts lists p b (weighs x))
+
+-- what holds of all members holds of one
+pub All-has : (P : ℕ → Type 0) (xs : List ℕ) (b : ℕ) → All P xs → has xs b ≡ true → P b
+All-has P [] b all h = absurd (false≢true h)
+All-has P (x ∷ xs) b all h = elim (cases_eq x b) as (λ _. P b) [
+  | inl e ↦ subst P e (all 0 x (omega arith))
+  | inr n ↦ All-has P xs b (λ k d l. all (suc k) d (omega arith)) (rw (ne_eqb x b n) at h)
+]

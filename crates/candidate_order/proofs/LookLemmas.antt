@@ -4,9 +4,11 @@ use Rattle.std.proofs.Common.{◌≡◌, ℕ, ◌<◌, ◌≤◌, List, [], ◌�
 use Rattle.std.specs.List.{All}
 use Rattle.std.proofs.lemmas.List.{get_or-map, length-map}
 use Rattle.std.proofs.lemmas.List.Elements.{All-map}
-use Rattle.plan_terms.specs.Cluster.{Lists, list_of, leads}
+use Rattle.plan_terms.specs.Cluster.{Cluster, Lists, list_of, leads, some_broker}
 use Rattle.plan_terms.specs.Fits.{fits}
 use Rattle.plan_terms.specs.Goal.{Meaning, Accepts, Lessens}
+use Rattle.plan_terms.specs.Legal.{any_new, is_legal, is_lost}
+use Rattle.plan_terms.specs.States.{is_new}
 use Rattle.plan_terms.specs.Trace.{AllAccept}
 use Rattle.plan_terms.specs.declared.actions.Action.{Action}
 use Rattle.plan_terms.specs.declared.actions.Action.TheVariants.{Move}
@@ -14,12 +16,13 @@ use Rattle.plan_terms.specs.declared.cluster.Part.{Part}
 use Rattle.goal_terms.specs.Quantity.{Weights, part_weight, total}
 use Rattle.goal_terms.specs.Rooms.{RoomsDecide, free}
 use Rattle.goal_terms.specs.declared.room.Room.{Room}
-use Rattle.std.proofs.lemmas.Bool.{cases_eq, ne_eqb, false≢true, and_parts, or_parts, not-false, not-true}
+use Rattle.std.proofs.Math.Bool.{or-false}
+use Rattle.std.proofs.lemmas.Bool.{cases_eq, ne_eqb, false≢true, and_from, and_parts, or_parts, not-false, not-true}
 use Rattle.goal_terms.specs.Pairs.{ColdPairs, IdleTrades, giver, taker}
 use Rattle.goal_terms.proofs.PairLemmas.{trade-from, trade-to}
 use Rattle.goal_terms.specs.declared.heat.Heat.{Heat}
 use Rattle.goal_terms.specs.declared.heat.Heat.TheVariants as heat
-use Rattle.candidate_order.specs.Looks.{look_out, look_back, BothStay, look_weight, look_whole, look_room, Passes, is_cold, is_above, is_below, may_help, helps_below_alone}
+use Rattle.candidate_order.specs.Looks.{look_out, look_back, BothStay, look_weight, look_whole, look_room, Passes, is_cold, is_above, is_below, may_help, helps_below_alone, weighs_nothing}
 
 -- what a goal answers for its weight, and for a room
 pub weight-some : (o : Option Weights) (parts : List Part) (p : ℕ) (first : Bool) (n : ℕ) → Some n ≡ option_map (λ w. part_weight w parts p first) o → n ≡ look_weight o parts p first
@@ -168,6 +171,16 @@ idle-move (Some w) m hot parts lists cold idle p a b fit e less = elim (cases_eq
       let rest = or_parts (is_above (hot a)) (is_below (hot b)) (rw (ne_eqb (part_weight w parts p (leads (list_of lists p) a)) 0 n) at e) in
       idle.falling (Move p a b) fit (not_above (hot a) rest.0) (not_below (hot b) rest.1) (omega arith) less
 ]
+
+-- and nothing helps nobody
+pub nothing-helps : (o : Option ℕ) (s t : Heat) → weighs_nothing o ≡ true → may_help o s t ≡ false
+nothing-helps None s t e = absurd (false≢true e)
+nothing-helps (Some n) s t e = rw e refl
+
+-- while a broker is added, a broker that isn't lost gives to new ones alone
+pub move-gains : (c : Cluster) (lists : Lists) (p a b : ℕ) → is_legal c lists (Move p a b) ≡ true → is_lost c a ≡ false → any_new c ≡ true → some_broker (λ x. is_new x.state) c b ≡ true
+unfolding is_legal
+move-gains c lists p a b h lost new = let legal = rw (lost, new) at h in grind (arith, and_parts, and_from, or-false)
 
 -- where a move can help only a broker below its bounds, one to another does not help
 pub below-alone : (o : Option Weights) (m : Meaning) (hot : ℕ → Heat) (parts : List Part) (lists : Lists) → IfSome o (IdleTrades m hot parts lists)

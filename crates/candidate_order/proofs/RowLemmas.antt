@@ -9,7 +9,7 @@ use Rattle.std.proofs.lemmas.List.Elements.{All-append, All-nil, All-filter, fil
 use Rattle.plan_terms.specs.Cluster.{Cluster, Lists, has, list_of}
 use Rattle.plan_terms.specs.declared.cluster.Broker.{Broker}
 use Rattle.plan_terms.specs.declared.actions.Action.TheVariants.{Move}
-use Rattle.goal_terms.specs.PerBroker.{ids_of}
+use Rattle.goal_terms.specs.PerBroker.{id_at, ids_of}
 use Rattle.candidate_order.specs.CandidateList.{moves_of_replica, replicas_of, by_falling, put_by, numbers}
 use Rattle.candidate_order.specs.Order.{IsOrderOf}
 
@@ -103,3 +103,11 @@ below-numbers (suc n) m l = All-append (λ p. p < m) (numbers n) (n ∷ []) (bel
 -- a broker's replicas are of partitions
 pub replicas_of-within : (c : Cluster) (lists : Lists) (b : ℕ) → All (λ p. p < length lists) (replicas_of c lists b)
 replicas_of-within c lists b = All-by_falling (λ p. p < length lists) _ _ (All-filter (λ p. has (list_of lists p) b) (λ p. p < length lists) (numbers (length lists)) (below-numbers (length lists) (length lists) (omega arith)))
+
+-- the row at a broker's place
+module _ {R : Type 0} (id : R → ℕ) (rows : List R) (c : Cluster) (k : ℕ) (e : map id rows ≡ ids_of c.brokers) where
+  pub row-within : k < length c.brokers → k < length rows
+  row-within l = omega (arith, l, ap length e, length-map rows id, length-map c.brokers (λ (x : Broker). x.id))
+
+  pub row-id : (r : R) → k < length rows → r ≡ get_or rows k r → id r ≡ id_at c.brokers k
+  row-id r l is = ap id is ∙ sym (get_or-map id rows k r 0 l) ∙ ap (λ ys. get_or ys k 0) e

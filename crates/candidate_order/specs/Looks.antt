@@ -58,6 +58,11 @@ abbrev pub may_help : Option ℕ → Heat → Heat → Bool
 may_help None source target = not (is_cold source && is_cold target)
 may_help (Some n) source target = not (n == 0) && (is_above source || is_below target)
 
+-- the goal has a quantity, and nothing of it goes
+abbrev pub weighs_nothing : Option ℕ → Bool
+weighs_nothing None = false
+weighs_nothing (Some n) = n == 0
+
 -- where the goal has a quantity and the source doesn't lie above its bounds, a move can help only a broker that lies below its own
 abbrev pub helps_below_alone : Option ℕ → Heat → Bool
 helps_below_alone None source = false

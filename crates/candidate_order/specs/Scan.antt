@@ -1,13 +1,16 @@
 -- What is known before candidates are tried.
-use Rattle.std.specs.Prelude.{◌≡◌, ℕ, ◌<◌, List, Option, map, length, get_or}
+use Rattle.std.specs.Prelude.{◌≡◌, ℕ, ◌<◌, Bool, true, List, Option, map, length, get_or}
 use Rattle.std.specs.List.{All, filter}
-use Rattle.plan_terms.specs.Cluster.{Cluster}
+use Rattle.plan_terms.specs.Cluster.{Cluster, has, some_broker}
+use Rattle.plan_terms.specs.States.{is_new}
 use Rattle.plan_terms.specs.declared.cluster.Part.{Part}
 use Rattle.goal_terms.specs.PerBroker.{ids_of}
 use Rattle.goal_terms.specs.Quantity.{Weights}
 use Rattle.goal_terms.specs.declared.heat.Heat.{Heat}
 use Rattle.goal_terms.specs.declared.room.Room.{Room}
 use Rattle.candidate_order.specs.Looks.{is_below, look_room, IsWeighed}
+use Rattle.candidate_order.specs.declared.kept.Choice.{Choice}
+use Rattle.candidate_order.specs.declared.kept.Choice.TheVariants as choice
 use Rattle.candidate_order.specs.declared.kept.PartWeights.{PartWeights}
 use Rattle.candidate_order.specs.declared.kept.Row.{Row}
 use Rattle.candidate_order.specs.declared.kept.Scan.{Scan}
@@ -22,14 +25,30 @@ pub record AreWeights {X : Type 0} (weighs : X → Option Weights) (earlier : Li
   pub one_each : length weights ≡ length parts
   pub each : (p : ℕ) (d : PartWeights) → p < length weights → IsWeighed weighs earlier parts p (get_or weights p d).lead.items (get_or weights p d).follow.items
 
--- of the brokers that lie below their bounds, in their order
-pub record AreBelow {X : Type 0} (weighs : X → Option Weights) (room : X → ℕ → Room) (heat : ℕ → Heat) (earlier : List X) (c : Cluster) (rows : List Row) : Type 0 where
-  pub brokers_are : map (λ (r : Row). r.id) rows ≡ filter (λ b. is_below (heat b)) (ids_of c.brokers)
+-- a broker lies below its bounds, or is being added
+abbrev pub is_chosen : Choice → Cluster → ℕ → Heat → Bool
+is_chosen choice.Below c b h = is_below h
+is_chosen choice.New c b h = some_broker (λ x. is_new x.state) c b
+
+-- of the brokers that are chosen, in their order
+pub record AreChosen {X : Type 0} (choice : Choice) (weighs : X → Option Weights) (room : X → ℕ → Room) (heat : ℕ → Heat) (earlier : List X) (c : Cluster) (rows : List Row) : Type 0 where
+  pub brokers_are : map (λ (r : Row). r.id) rows ≡ filter (λ b. is_chosen choice c b (heat b)) (ids_of c.brokers)
   pub rows_are : All (IsRow weighs room heat earlier) rows
 
+-- of the brokers that lie below their bounds
+abbrev pub AreBelow : {X : Type 0} → (X → Option Weights) → (X → ℕ → Room) → (ℕ → Heat) → List X → Cluster → List Row → Type 0
+AreBelow {X} weighs room heat earlier c rows = AreChosen choice.Below weighs room heat earlier c rows
+
+-- the partitions whose actions may help the goal are among these
+pub record AreStirring (stirs : ℕ → Bool) (parts : List Part) (xs : List ℕ) : Type 0 where
+  pub within : All (λ p. p < length parts) xs
+  pub each : (p : ℕ) → p < length parts → stirs p ≡ true → has xs p ≡ true
+
 -- of all partitions, and of the brokers in their order
-pub record IsScan {X : Type 0} (weighs : X → Option Weights) (room : X → ℕ → Room) (heat : ℕ → Heat) (earlier : List X) (c : Cluster) (s : Scan) : Type 0 where
+pub record IsScan {X : Type 0} (weighs : X → Option Weights) (room : X → ℕ → Room) (heat : ℕ → Heat) (stirs : ℕ → Bool) (earlier : List X) (c : Cluster) (s : Scan) : Type 0 where
   pub weights_are : AreWeights weighs earlier c.parts s.weights.items
   pub brokers_are : map (λ (r : Row). r.id) s.rows.items ≡ ids_of c.brokers
   pub rows_are : All (IsRow weighs room heat earlier) s.rows.items
   pub below_are : AreBelow weighs room heat earlier c s.below.items
+  pub added_are : AreChosen choice.New weighs room heat earlier c s.added.items
+  pub stirring_are : AreStirring stirs c.parts s.stirring.items

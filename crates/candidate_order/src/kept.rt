@@ -1,16 +1,18 @@
 // What is known before candidates are tried.
 ghost use Rattle.std.specs.Prelude.{◌≡◌, ◌<◌, ℕ, true, false, IfOk, IsTrue, map, length};
 ghost use Rattle.std.specs.List.{All};
-ghost use Rattle.candidate_order.specs.Looks.{is_below, is_cold, look_weight, look_whole, IsWeighed};
+ghost use Rattle.candidate_order.specs.Looks.{is_cold, look_weight, look_whole, IsWeighed};
 ghost use Rattle.candidate_order.specs.declared.kept.Row.{Row};
-ghost use Rattle.candidate_order.specs.Scan.{AreBelow, AreWeights, IsRow, IsScan};
+ghost use Rattle.candidate_order.specs.Scan.{AreBelow, AreChosen, AreStirring, AreWeights, IsRow, IsScan, is_chosen};
 ghost use Rattle.goal_terms.specs.declared.heat.Heat.TheVariants as heat;
 ghost use Rattle.goal_terms.specs.PerBroker.{id_at, ids_of};
 ghost use Rattle.plan_terms.specs.Belongs.{IsBookOf};
+ghost use Rattle.plan_terms.specs.Cluster.{is_known};
 
 use crate::looks::{rooms_of, weights_of, wholes_of};
+use crate::order::broker_place;
 use load_model::{Case, LoadBook, Memory};
-use move_actions::{Goal, Heat, Room};
+use move_actions::{Goal, Heat, Room, is_new};
 use std::alloc::Global;
 
 /// What the places of a partition weigh for the earlier goals: 0 for one without a quantity.
@@ -40,6 +42,10 @@ pub struct Scan {
     pub rows: Vec<Row>,
     /// Of the brokers that lie below their bounds, in their order.
     pub below: Vec<Row>,
+    /// Of the brokers that are being added, in their order.
+    pub added: Vec<Row>,
+    /// The partitions whose actions may help the goal at hand.
+    pub stirring: Vec<u32>,
 }
 
 // What the places of one partition weigh.
@@ -162,10 +168,49 @@ impl Row {
     }
 }
 
-fn is_below(heat: Heat) -> bool
-    ensures { result ≡ is_below heat }
+/// Which brokers some rows are of.
+#[derive(Clone, Copy)]
+pub enum Choice {
+    /// Those that lie below their bounds.
+    Below,
+    /// Those that are being added.
+    New,
+}
+
+fn is_chosen(case: &Case, choice: Choice, row: &Row) -> bool
+    ensures { result ≡ is_chosen choice case.now row.now.id row.now.heat }
 {
-    matches!(heat, Heat::Below)
+    match choice {
+        Choice::Below => matches!(row.heat, Heat::Below),
+        Choice::New => is_new(case, row.id),
+    }
+}
+
+/// What is kept of the brokers that are chosen, in their order.
+pub fn all_chosen<G: Goal>(
+    alloc: Global,
+    case: &Case,
+    book: &LoadBook,
+    earlier: &[G],
+    goal: &G,
+    rows: &[Row],
+    choice: Choice,
+) -> Result<Vec<Row>, Memory>
+    requires brokers { map (λ (r : Row). r.id) rows.now ≡ ids_of case.now.brokers }
+    requires rows { All (IsRow G.weighs (λ g. G.room_at g case.now book.now.lists) (G.heat_at goal.now case.now book.now.lists) earlier.now) rows.now }
+    ensures { IfOk result (λ v. AreChosen choice G.weighs (λ g. G.room_at g case.now book.now.lists) (G.heat_at goal.now case.now book.now.lists) earlier.now case.now v.items) }
+{
+    let _brokers = case.brokers();
+    let _lists = book.lists();
+    let _goals = earlier.len();
+    let mut chosen = Vec::new(alloc);
+    for row in rows {
+        if is_chosen(case, choice, row) {
+            let copy = row.copy(alloc)?;
+            chosen.push(copy)?;
+        }
+    }
+    Ok(chosen)
 }
 
 /// What is kept of the brokers that lie below their bounds, in their order.
@@ -181,17 +226,7 @@ pub fn all_below<G: Goal>(
     requires rows { All (IsRow G.weighs (λ g. G.room_at g case.now book.now.lists) (G.heat_at goal.now case.now book.now.lists) earlier.now) rows.now }
     ensures { IfOk result (λ v. AreBelow G.weighs (λ g. G.room_at g case.now book.now.lists) (G.heat_at goal.now case.now book.now.lists) earlier.now case.now v.items) }
 {
-    let _brokers = case.brokers();
-    let _lists = book.lists();
-    let _goals = earlier.len();
-    let mut below = Vec::new(alloc);
-    for row in rows {
-        if is_below(row.heat) {
-            let copy = row.copy(alloc)?;
-            below.push(copy)?;
-        }
-    }
-    Ok(below)
+    all_chosen(alloc, case, book, earlier, goal, rows, Choice::Below)
 }
 
 impl Scan {
@@ -205,8 +240,53 @@ impl Scan {
             weights,
             rows: Vec::new(alloc),
             below: Vec::new(alloc),
+            added: Vec::new(alloc),
+            stirring: Vec::new(alloc),
         })
     }
+}
+
+/// The partitions whose actions may help the goal.
+pub fn all_stirring<G: Goal>(
+    alloc: Global,
+    case: &Case,
+    book: &LoadBook,
+    goal: &G,
+) -> Result<Vec<u32>, Memory>
+    requires made_goal { G.made_for goal.now case.now }
+    requires belongs { IsBookOf case.now book.now }
+    ensures { IfOk result (λ v. AreStirring (G.stirs_at goal.now case.now book.now.lists) case.now.parts v.items) }
+{
+    let mut stirring = Vec::new(alloc);
+    let end = case.parts().len() as u32;
+    for part in 0..end {
+        if goal.stirs(case, book, part) {
+            stirring.push(part)?;
+        }
+    }
+    Ok(stirring)
+}
+
+// The row of a broker of the case.
+pub(crate) fn row_of<'a, G: Goal>(
+    case: &Case,
+    book: &LoadBook,
+    earlier: &[G],
+    goal: &G,
+    scan: &'a Scan,
+    broker: u32,
+) -> &'a Row
+    requires scan { IsScan G.weighs (λ g. G.room_at g case.now book.now.lists) (G.heat_at goal.now case.now book.now.lists) (G.stirs_at goal.now case.now book.now.lists) earlier.now case.now scan.now }
+    requires known { IsTrue (is_known case.now broker) }
+    ensures id { result.now.id ≡ broker }
+    ensures row { IsRow G.weighs (λ g. G.room_at g case.now book.now.lists) (G.heat_at goal.now case.now book.now.lists) earlier.now result.now }
+{
+    let _brokers = case.brokers();
+    let _lists = book.lists();
+    let _goals = earlier.len();
+    let rows = scan.rows.as_slice();
+    let place = broker_place(case, broker);
+    &rows[place]
 }
 
 fn is_cold(heat: Heat) -> bool

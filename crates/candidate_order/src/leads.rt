@@ -1,18 +1,90 @@
 // The first lead of one partition that serves.
-ghost use Rattle.std.specs.Prelude.{◌≡◌, ◌<◌, ℕ, true, MatchOption, map, length};
+ghost use Rattle.std.specs.Prelude.{◌≡◌, ◌<◌, ◌↔◌, ℕ, true, false, IsTrue, MatchOption, map, length};
 ghost use Rattle.std.specs.List.{All};
 ghost use Rattle.candidate_order.specs.CandidateList.{NoStep};
 ghost use Rattle.candidate_order.specs.First.{IsFirst};
 ghost use Rattle.candidate_order.specs.Scan.{IsRow, IsScan};
 ghost use Rattle.plan_terms.specs.Belongs.{IsBookOf};
-ghost use Rattle.plan_terms.specs.Cluster.{list_of, leads};
+ghost use Rattle.plan_terms.specs.Cluster.{list_of, leads, is_known};
 ghost use Rattle.plan_terms.specs.Legal.{leads_of};
 ghost use Rattle.plan_terms.specs.Trace.{Step};
+ghost use Rattle.plan_terms.specs.declared.actions.Action.{Action};
 
-use crate::kept::{Row, Scan, column};
+use crate::kept::{Row, Scan, column, row_of};
+use crate::swaps::may_swap;
 use crate::trades::trade_serves;
 use load_model::{Case, LoadBook};
 use move_actions::{Action, Goal};
+
+// Whether a lead of a partition, whose first member is the source, to one broker serves.
+fn lead_serves<G: Goal>(
+    case: &Case,
+    book: &LoadBook,
+    earlier: &[G],
+    goal: &G,
+    scan: &Scan,
+    part: u32,
+    source: &Row,
+    to: u32,
+) -> bool
+    requires made { All (λ g. G.made_for g case.now) earlier.now }
+    requires made_goal { G.made_for goal.now case.now }
+    requires belongs { IsBookOf case.now book.now }
+    requires scan { IsScan G.weighs (λ g. G.room_at g case.now book.now.lists) (G.heat_at goal.now case.now book.now.lists) (G.stirs_at goal.now case.now book.now.lists) earlier.now case.now scan.now }
+    requires part { part < length case.now.parts }
+    requires first { leads (list_of book.now.lists part) source.now.id ≡ true }
+    requires source { IsRow G.weighs (λ g. G.room_at g case.now book.now.lists) (G.heat_at goal.now case.now book.now.lists) earlier.now source.now }
+    requires known { IsTrue (is_known case.now to) }
+    ensures { IsTrue result ↔ Step case.now (map (λ g. G.meaning g case.now) earlier.now) (G.meaning goal.now case.now) book.now.lists (Action.Lead part to) }
+{
+    let _brokers = case.brokers();
+    let _lists = book.lists();
+    let target = row_of(case, book, earlier, goal, scan, to);
+    let out = goal.weight(case, part, true);
+    let back = goal.weight(case, part, false);
+    if !may_swap(out, back, source.heat, target.heat) {
+        return false;
+    }
+    let weights = scan.weights.as_slice();
+    let outs = column(case, earlier, weights, part, true);
+    let backs = column(case, earlier, weights, part, false);
+    let action = Action::Lead { part, to };
+    let givers = source.rooms.as_slice();
+    let takers = target.rooms.as_slice();
+    trade_serves(
+        case, book, earlier, goal, part, action, outs, backs, givers, takers,
+    )
+}
+
+// Whether a lead of a partition, whose first member is the source, to one of its members serves. A lead to any other broker
+// isn't legal.
+fn some_lead_serves<G: Goal>(
+    case: &Case,
+    book: &LoadBook,
+    earlier: &[G],
+    goal: &G,
+    scan: &Scan,
+    part: u32,
+    source: &Row,
+) -> bool
+    requires made { All (λ g. G.made_for g case.now) earlier.now }
+    requires made_goal { G.made_for goal.now case.now }
+    requires belongs { IsBookOf case.now book.now }
+    requires scan { IsScan G.weighs (λ g. G.room_at g case.now book.now.lists) (G.heat_at goal.now case.now book.now.lists) (G.stirs_at goal.now case.now book.now.lists) earlier.now case.now scan.now }
+    requires part { part < length case.now.parts }
+    requires first { leads (list_of book.now.lists part) source.now.id ≡ true }
+    requires source { IsRow G.weighs (λ g. G.room_at g case.now book.now.lists) (G.heat_at goal.now case.now book.now.lists) earlier.now source.now }
+    ensures { result ≡ false → All (λ b. Step case.now (map (λ g. G.meaning g case.now) earlier.now) (G.meaning goal.now case.now) book.now.lists (Action.Lead part b) → ⊥) (list_of book.now.lists part) }
+{
+    let _lists = book.lists();
+    let members = book.list(part as usize);
+    for member in members {
+        if lead_serves(case, book, earlier, goal, scan, part, source, *member) {
+            return true;
+        }
+    }
+    false
+}
 
 /// The first lead of a partition, whose first member is the source, that serves, by the order of the brokers.
 pub fn first_lead<G: Goal>(
@@ -27,7 +99,7 @@ pub fn first_lead<G: Goal>(
     requires made { All (λ g. G.made_for g case.now) earlier.now }
     requires made_goal { G.made_for goal.now case.now }
     requires belongs { IsBookOf case.now book.now }
-    requires scan { IsScan G.weighs (λ g. G.room_at g case.now book.now.lists) (G.heat_at goal.now case.now book.now.lists) earlier.now case.now scan.now }
+    requires scan { IsScan G.weighs (λ g. G.room_at g case.now book.now.lists) (G.heat_at goal.now case.now book.now.lists) (G.stirs_at goal.now case.now book.now.lists) earlier.now case.now scan.now }
     requires part { part < length case.now.parts }
     requires first { leads (list_of book.now.lists part) source.now.id ≡ true }
     requires source { IsRow G.weighs (λ g. G.room_at g case.now book.now.lists) (G.heat_at goal.now case.now book.now.lists) earlier.now source.now }
@@ -35,6 +107,10 @@ pub fn first_lead<G: Goal>(
         (NoStep case.now (map (λ g. G.meaning g case.now) earlier.now) (G.meaning goal.now case.now) book.now.lists (leads_of case.now.brokers part))
         (λ a. IsFirst (Step case.now (map (λ g. G.meaning g case.now) earlier.now) (G.meaning goal.now case.now) book.now.lists) (leads_of case.now.brokers part) a) }
 {
+    let _brokers = case.brokers();
+    if !some_lead_serves(case, book, earlier, goal, scan, part, source) {
+        return None;
+    }
     let weights = scan.weights.as_slice();
     let outs = column(case, earlier, weights, part, true);
     let backs = column(case, earlier, weights, part, false);

@@ -14,7 +14,9 @@ mod rows;
 mod swaps;
 mod trades;
 
-pub use kept::{PartWeights, Row, Scan, all_below, all_rows, all_weights};
+pub use kept::{
+    Choice, PartWeights, Row, Scan, all_below, all_chosen, all_rows, all_stirring, all_weights,
+};
 pub use laws::{candidates_are_all, filters_keep_the_first, moves_come_first, replicas_are_unique};
 pub use leads::first_lead;
 pub use looks::{all_give, all_pass, rooms_of, weights_of, wholes_of};

@@ -7,7 +7,7 @@ ghost use Rattle.candidate_order.specs.Scan.{AreWeights, IsScan};
 ghost use Rattle.plan_terms.specs.Belongs.{IsBookOf};
 ghost use Rattle.plan_terms.specs.Trace.{NoneLeft};
 
-use crate::kept::{Scan, all_below, all_cold, all_rows};
+use crate::kept::{Choice, Scan, all_below, all_chosen, all_cold, all_rows, all_stirring};
 use crate::nexts::next_in;
 use crate::order::Order;
 use crate::plain::Kind;
@@ -28,7 +28,7 @@ fn first_candidate<G: Goal>(
     requires made_goal { G.made_for goal.now case.now }
     requires belongs { IsBookOf case.now book.now }
     requires order { IsOrderOf case.now book.now.lists order.now }
-    requires scan { IsScan G.weighs (λ g. G.room_at g case.now book.now.lists) (G.heat_at goal.now case.now book.now.lists) earlier.now case.now scan.now }
+    requires scan { IsScan G.weighs (λ g. G.room_at g case.now book.now.lists) (G.heat_at goal.now case.now book.now.lists) (G.stirs_at goal.now case.now book.now.lists) earlier.now case.now scan.now }
     ensures { MatchOption result
         (NoneLeft case.now (map (λ g. G.meaning g case.now) earlier.now) (G.meaning goal.now case.now) book.now.lists)
         (λ a. FirstStep case.now (map (λ g. G.meaning g case.now) earlier.now) (G.meaning goal.now case.now) book.now.lists a) }
@@ -74,7 +74,21 @@ pub fn next_lessening<G: Goal>(
         (NoneLeft case.now (map (λ g. G.meaning g case.now) earlier.now) (G.meaning goal.now case.now) book.now.lists)
         (λ a. FirstStep case.now (map (λ g. G.meaning g case.now) earlier.now) (G.meaning goal.now case.now) book.now.lists a)) }
 {
+    let _brokers = case.brokers();
+    scan.stirring = all_stirring(alloc, case, book, goal)?;
+    if scan.stirring.is_empty() {
+        return Ok(None);
+    }
     scan.rows = all_rows(alloc, case, book, earlier, goal)?;
     scan.below = all_below(alloc, case, book, earlier, goal, scan.rows.as_slice())?;
+    scan.added = all_chosen(
+        alloc,
+        case,
+        book,
+        earlier,
+        goal,
+        scan.rows.as_slice(),
+        Choice::New,
+    )?;
     Ok(first_candidate(case, book, order, earlier, goal, scan))
 }

@@ -3,6 +3,7 @@ ghost use Rattle.std.specs.Prelude.{◌≡◌, ◌<◌, ℕ, MatchOption, map, l
 ghost use Rattle.std.specs.List.{All, flat_map};
 ghost use Rattle.candidate_order.specs.CandidateList.{candidates_at, candidates_in, NoStep};
 ghost use Rattle.candidate_order.specs.First.{IsFirst};
+ghost use Rattle.candidate_order.specs.Looks.{weighs_nothing};
 ghost use Rattle.candidate_order.specs.Order.{IsOrderOf};
 ghost use Rattle.candidate_order.specs.Scan.{IsRow, IsScan};
 ghost use Rattle.candidate_order.specs.declared.plain.Kind.TheVariants as kind;
@@ -19,6 +20,13 @@ use crate::swaps::first_swap;
 use load_model::{Case, LoadBook};
 use move_actions::{Action, Goal};
 
+// Whether the goal has a quantity, and nothing of it goes.
+fn weighs_nothing(own: Option<u64>) -> bool
+    ensures { result ≡ weighs_nothing own }
+{
+    own == Some(0)
+}
+
 // The first move of one replica that serves.
 fn first_move<G: Goal>(
     case: &Case,
@@ -32,16 +40,23 @@ fn first_move<G: Goal>(
     requires made { All (λ g. G.made_for g case.now) earlier.now }
     requires made_goal { G.made_for goal.now case.now }
     requires belongs { IsBookOf case.now book.now }
-    requires scan { IsScan G.weighs (λ g. G.room_at g case.now book.now.lists) (G.heat_at goal.now case.now book.now.lists) earlier.now case.now scan.now }
+    requires scan { IsScan G.weighs (λ g. G.room_at g case.now book.now.lists) (G.heat_at goal.now case.now book.now.lists) (G.stirs_at goal.now case.now book.now.lists) earlier.now case.now scan.now }
     requires part { part < length case.now.parts }
     requires source { IsRow G.weighs (λ g. G.room_at g case.now book.now.lists) (G.heat_at goal.now case.now book.now.lists) earlier.now source.now }
     ensures { MatchOption result
         (NoStep case.now (map (λ g. G.meaning g case.now) earlier.now) (G.meaning goal.now case.now) book.now.lists (candidates_at kind.Moves case.now book.now.lists source.now.id part))
         (λ a. IsFirst (Step case.now (map (λ g. G.meaning g case.now) earlier.now) (G.meaning goal.now case.now) book.now.lists) (candidates_at kind.Moves case.now book.now.lists source.now.id part) a) }
 {
+    let _brokers = case.brokers();
     let _lists = book.lists();
+    if !goal.stirs(case, book, part) {
+        return None;
+    }
     let first = is_first(book.list(part as usize), source.id);
     let own = goal.weight(case, part, first);
+    if weighs_nothing(own) {
+        return None;
+    }
     let weights = column(case, earlier, scan.weights.as_slice(), part, first);
     first_anywhere(case, book, earlier, goal, scan, part, source, weights, own)
 }
@@ -59,15 +74,19 @@ fn first_lead_from<G: Goal>(
     requires made { All (λ g. G.made_for g case.now) earlier.now }
     requires made_goal { G.made_for goal.now case.now }
     requires belongs { IsBookOf case.now book.now }
-    requires scan { IsScan G.weighs (λ g. G.room_at g case.now book.now.lists) (G.heat_at goal.now case.now book.now.lists) earlier.now case.now scan.now }
+    requires scan { IsScan G.weighs (λ g. G.room_at g case.now book.now.lists) (G.heat_at goal.now case.now book.now.lists) (G.stirs_at goal.now case.now book.now.lists) earlier.now case.now scan.now }
     requires part { part < length case.now.parts }
     requires source { IsRow G.weighs (λ g. G.room_at g case.now book.now.lists) (G.heat_at goal.now case.now book.now.lists) earlier.now source.now }
     ensures { MatchOption result
         (NoStep case.now (map (λ g. G.meaning g case.now) earlier.now) (G.meaning goal.now case.now) book.now.lists (candidates_at kind.Leads case.now book.now.lists source.now.id part))
         (λ a. IsFirst (Step case.now (map (λ g. G.meaning g case.now) earlier.now) (G.meaning goal.now case.now) book.now.lists) (candidates_at kind.Leads case.now book.now.lists source.now.id part) a) }
 {
+    let _brokers = case.brokers();
     let _lists = book.lists();
     if !is_first(book.list(part as usize), source.id) {
+        return None;
+    }
+    if !goal.stirs(case, book, part) {
         return None;
     }
     first_lead(case, book, earlier, goal, scan, part, source)
@@ -89,7 +108,7 @@ fn first_at<G: Goal>(
     requires made_goal { G.made_for goal.now case.now }
     requires belongs { IsBookOf case.now book.now }
     requires order { IsOrderOf case.now book.now.lists order.now }
-    requires scan { IsScan G.weighs (λ g. G.room_at g case.now book.now.lists) (G.heat_at goal.now case.now book.now.lists) earlier.now case.now scan.now }
+    requires scan { IsScan G.weighs (λ g. G.room_at g case.now book.now.lists) (G.heat_at goal.now case.now book.now.lists) (G.stirs_at goal.now case.now book.now.lists) earlier.now case.now scan.now }
     requires part { part < length case.now.parts }
     requires source { IsRow G.weighs (λ g. G.room_at g case.now book.now.lists) (G.heat_at goal.now case.now book.now.lists) earlier.now source.now }
     ensures { MatchOption result
@@ -119,7 +138,7 @@ fn first_of<G: Goal>(
     requires made_goal { G.made_for goal.now case.now }
     requires belongs { IsBookOf case.now book.now }
     requires order { IsOrderOf case.now book.now.lists order.now }
-    requires scan { IsScan G.weighs (λ g. G.room_at g case.now book.now.lists) (G.heat_at goal.now case.now book.now.lists) earlier.now case.now scan.now }
+    requires scan { IsScan G.weighs (λ g. G.room_at g case.now book.now.lists) (G.heat_at goal.now case.now book.now.lists) (G.stirs_at goal.now case.now book.now.lists) earlier.now case.now scan.now }
     requires source { IsRow G.weighs (λ g. G.room_at g case.now book.now.lists) (G.heat_at goal.now case.now book.now.lists) earlier.now source.now }
     requires within { All (λ p. p < length case.now.parts) replicas.now }
     ensures { MatchOption result
@@ -149,7 +168,7 @@ pub fn next_in<G: Goal>(
     requires made_goal { G.made_for goal.now case.now }
     requires belongs { IsBookOf case.now book.now }
     requires order { IsOrderOf case.now book.now.lists order.now }
-    requires scan { IsScan G.weighs (λ g. G.room_at g case.now book.now.lists) (G.heat_at goal.now case.now book.now.lists) earlier.now case.now scan.now }
+    requires scan { IsScan G.weighs (λ g. G.room_at g case.now book.now.lists) (G.heat_at goal.now case.now book.now.lists) (G.stirs_at goal.now case.now book.now.lists) earlier.now case.now scan.now }
     ensures { MatchOption result
         (NoStep case.now (map (λ g. G.meaning g case.now) earlier.now) (G.meaning goal.now case.now) book.now.lists (candidates_in kind case.now book.now.lists))
         (λ a. IsFirst (Step case.now (map (λ g. G.meaning g case.now) earlier.now) (G.meaning goal.now case.now) book.now.lists) (candidates_in kind case.now book.now.lists) a) }

@@ -18,7 +18,7 @@ use std::alloc::Global;
 use std::marker::Model;
 
 // The place of a broker of the case.
-fn broker_place(case: &Case, broker: u32) -> usize
+pub(crate) fn broker_place(case: &Case, broker: u32) -> usize
     requires { IsTrue (is_known case.now broker) }
     ensures within { result < length case.now.brokers }
     ensures id { id_at case.now.brokers result ≡ broker }

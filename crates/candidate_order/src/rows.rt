@@ -8,16 +8,18 @@ ghost use Rattle.candidate_order.specs.Scan.{IsRow, IsScan};
 ghost use Rattle.candidate_order.specs.declared.kept.Row.{Row};
 ghost use Rattle.goal_terms.specs.Quantity.{part_weight};
 ghost use Rattle.plan_terms.specs.Belongs.{IsBookOf};
-ghost use Rattle.plan_terms.specs.Cluster.{list_of, leads};
+ghost use Rattle.plan_terms.specs.Cluster.{Lists, list_of, leads, some_broker};
 ghost use Rattle.plan_terms.specs.Fits.{fits, targets_known};
 ghost use Rattle.plan_terms.specs.Goal.{Accepts};
+ghost use Rattle.plan_terms.specs.Legal.{is_legal};
+ghost use Rattle.plan_terms.specs.States.{is_new};
 ghost use Rattle.plan_terms.specs.Trace.{Step};
 ghost use Rattle.plan_terms.specs.declared.actions.Action.{Action};
 
 use crate::kept::{Row, Scan};
 use crate::looks::{all_pass, may_leave};
 use load_model::{Case, LoadBook};
-use move_actions::{Action, Goal, Heat, legal};
+use move_actions::{Action, Goal, Heat, is_lost, legal};
 
 // Whether a move of that weight can help the goal at all.
 fn may_help(own: Option<u64>, source: Heat, target: Heat) -> bool
@@ -138,6 +140,9 @@ pub fn first_to<G: Goal>(
         (NoStep case.now (map (λ g. G.meaning g case.now) earlier.now) (G.meaning goal.now case.now) book.now.lists (map (λ (r : Row). Action.Move part source.now.id r.id) rows.now))
         (λ a. IsFirst (Step case.now (map (λ g. G.meaning g case.now) earlier.now) (G.meaning goal.now case.now) book.now.lists) (map (λ (r : Row). Action.Move part source.now.id r.id) rows.now) a) }
 {
+    if rows.is_empty() {
+        return None;
+    }
     let givers = source.rooms.as_slice();
     if !may_leave(case, book, earlier, part, source.id, weights, givers) {
         return None;
@@ -164,6 +169,16 @@ fn helps_below_alone(own: Option<u64>, source: Heat) -> bool
     }
 }
 
+// Whether a broker may give replicas to brokers that are being added alone: some are, and it isn't lost.
+fn gives_to_new(case: &Case, from: u32) -> bool
+    ensures { result ≡ true → (lists : Lists) (p b : ℕ) → is_legal case.now lists (Action.Move p from b) ≡ true → some_broker (λ x. is_new x.state) case.now b ≡ true }
+{
+    if !case.any_new() {
+        return false;
+    }
+    !is_lost(case, from)
+}
+
 /// The first move of one replica that serves, by the order of the brokers.
 pub fn first_anywhere<G: Goal>(
     case: &Case,
@@ -179,7 +194,7 @@ pub fn first_anywhere<G: Goal>(
     requires made { All (λ g. G.made_for g case.now) earlier.now }
     requires made_goal { G.made_for goal.now case.now }
     requires belongs { IsBookOf case.now book.now }
-    requires scan { IsScan G.weighs (λ g. G.room_at g case.now book.now.lists) (G.heat_at goal.now case.now book.now.lists) earlier.now case.now scan.now }
+    requires scan { IsScan G.weighs (λ g. G.room_at g case.now book.now.lists) (G.heat_at goal.now case.now book.now.lists) (G.stirs_at goal.now case.now book.now.lists) earlier.now case.now scan.now }
     requires part { part < length case.now.parts }
     requires source { IsRow G.weighs (λ g. G.room_at g case.now book.now.lists) (G.heat_at goal.now case.now book.now.lists) earlier.now source.now }
     requires weights { weights.now ≡ map (λ g. look_weight (G.weighs g) case.now.parts part (leads (list_of book.now.lists part) source.now.id)) earlier.now }
@@ -189,6 +204,10 @@ pub fn first_anywhere<G: Goal>(
         (λ a. IsFirst (Step case.now (map (λ g. G.meaning g case.now) earlier.now) (G.meaning goal.now case.now) book.now.lists) (moves_of_replica case.now source.now.id part) a) }
 {
     let _brokers = case.brokers();
+    if gives_to_new(case, source.id) {
+        let added = scan.added.as_slice();
+        return first_to(case, book, earlier, goal, added, part, source, weights, own);
+    }
     if !helps_below_alone(own, source.heat) {
         let rows = scan.rows.as_slice();
         return first_to(case, book, earlier, goal, rows, part, source, weights, own);

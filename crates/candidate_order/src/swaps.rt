@@ -1,5 +1,5 @@
 // The first swap of one replica that serves.
-ghost use Rattle.std.specs.Prelude.{◌≡◌, ◌<◌, ◌↔◌, ℕ, IsTrue, MatchOption, option_map, map, length};
+ghost use Rattle.std.specs.Prelude.{◌≡◌, ◌<◌, ◌↔◌, ℕ, false, true, IsTrue, MatchOption, option_map, map, length};
 ghost use Rattle.std.specs.List.{All};
 ghost use Rattle.candidate_order.specs.CandidateList.{candidates_at, replicas_of, NoStep};
 ghost use Rattle.candidate_order.specs.First.{IsFirst};
@@ -9,16 +9,17 @@ ghost use Rattle.candidate_order.specs.Scan.{IsRow, IsScan, AreWeights};
 ghost use Rattle.candidate_order.specs.declared.plain.Kind.TheVariants as kind;
 ghost use Rattle.goal_terms.specs.Quantity.{part_weight};
 ghost use Rattle.plan_terms.specs.Belongs.{IsBookOf};
-ghost use Rattle.plan_terms.specs.Cluster.{list_of, leads};
+ghost use Rattle.plan_terms.specs.Cluster.{Lists, list_of, leads};
+ghost use Rattle.plan_terms.specs.Legal.{is_legal};
 ghost use Rattle.plan_terms.specs.Trace.{Step};
 ghost use Rattle.plan_terms.specs.declared.actions.Action.{Action};
 
-use crate::kept::{PartWeights, Row, Scan, column};
+use crate::kept::{PartWeights, Row, Scan, column, row_of};
 use crate::order::Order;
 use crate::ranks::is_first;
 use crate::trades::trade_serves;
 use load_model::{Case, LoadBook};
-use move_actions::{Action, Goal, Heat};
+use move_actions::{Action, Goal, Heat, is_live, is_open};
 
 // Whether a swap of the two brokers can help the goal at all.
 fn may_meet(own: Option<u64>, source: Heat, target: Heat) -> bool
@@ -32,8 +33,8 @@ fn may_meet(own: Option<u64>, source: Heat, target: Heat) -> bool
     }
 }
 
-// Whether a swap of these weights can help the goal at all.
-fn may_swap(own: Option<u64>, back: Option<u64>, source: Heat, target: Heat) -> bool
+// Whether a trade of these weights can help the goal at all.
+pub(crate) fn may_swap(own: Option<u64>, back: Option<u64>, source: Heat, target: Heat) -> bool
     ensures { result ≡ may_swap own back source target }
 {
     match (own, back) {
@@ -46,6 +47,17 @@ fn may_swap(own: Option<u64>, back: Option<u64>, source: Heat, target: Heat) -> 
         }
         _ => !(matches!(source, Heat::Cold) && matches!(target, Heat::Cold)),
     }
+}
+
+// Whether a swap of a broker's replica may be legal at all, whatever it is exchanged for.
+fn may_be_swapped(case: &Case, part: u32, from: u32) -> bool
+    requires { part < length case.now.parts }
+    ensures { result ≡ false → (lists : Lists) (q b : ℕ) → is_legal case.now lists (Action.Swap part from q b) ≡ true → ⊥ }
+{
+    if case.options().leads_only || case.any_new() {
+        return false;
+    }
+    is_open(case, part) && is_live(case, from)
 }
 
 // Whether a swap is legal, each earlier goal accepts it, and it lessens the goal.
@@ -145,6 +157,113 @@ fn first_with<G: Goal>(
     None
 }
 
+// Whether a swap of one replica with one of a partition serves.
+fn some_of_serves<G: Goal>(
+    case: &Case,
+    book: &LoadBook,
+    earlier: &[G],
+    goal: &G,
+    scan: &Scan,
+    part: u32,
+    source: &Row,
+    outs: &[u64],
+    own: Option<u64>,
+    other: u32,
+) -> bool
+    requires made { All (λ g. G.made_for g case.now) earlier.now }
+    requires made_goal { G.made_for goal.now case.now }
+    requires belongs { IsBookOf case.now book.now }
+    requires scan { IsScan G.weighs (λ g. G.room_at g case.now book.now.lists) (G.heat_at goal.now case.now book.now.lists) (G.stirs_at goal.now case.now book.now.lists) earlier.now case.now scan.now }
+    requires part { part < length case.now.parts }
+    requires source { IsRow G.weighs (λ g. G.room_at g case.now book.now.lists) (G.heat_at goal.now case.now book.now.lists) earlier.now source.now }
+    requires outs { outs.now ≡ map (λ g. look_weight (G.weighs g) case.now.parts part (leads (list_of book.now.lists part) source.now.id)) earlier.now }
+    requires own { own ≡ option_map (λ w. part_weight w case.now.parts part (leads (list_of book.now.lists part) source.now.id)) (G.weighs goal.now) }
+    requires other { other < length case.now.parts }
+    ensures { result ≡ false → All (λ b. Step case.now (map (λ g. G.meaning g case.now) earlier.now) (G.meaning goal.now case.now) book.now.lists (Action.Swap part source.now.id other b) → ⊥) (list_of book.now.lists other) }
+{
+    let _brokers = case.brokers();
+    let _lists = book.lists();
+    let weights = scan.weights.as_slice();
+    let members = book.list(other as usize);
+    for member in members {
+        let target = row_of(case, book, earlier, goal, scan, *member);
+        if swap_serves(
+            case, book, earlier, goal, weights, part, source, outs, own, other, target,
+        ) {
+            return true;
+        }
+    }
+    false
+}
+
+// Whether a swap of one replica with one of a partition that stirs serves.
+fn some_stirring_serves<G: Goal>(
+    case: &Case,
+    book: &LoadBook,
+    earlier: &[G],
+    goal: &G,
+    scan: &Scan,
+    part: u32,
+    source: &Row,
+    outs: &[u64],
+    own: Option<u64>,
+) -> bool
+    requires made { All (λ g. G.made_for g case.now) earlier.now }
+    requires made_goal { G.made_for goal.now case.now }
+    requires belongs { IsBookOf case.now book.now }
+    requires scan { IsScan G.weighs (λ g. G.room_at g case.now book.now.lists) (G.heat_at goal.now case.now book.now.lists) (G.stirs_at goal.now case.now book.now.lists) earlier.now case.now scan.now }
+    requires part { part < length case.now.parts }
+    requires source { IsRow G.weighs (λ g. G.room_at g case.now book.now.lists) (G.heat_at goal.now case.now book.now.lists) earlier.now source.now }
+    requires outs { outs.now ≡ map (λ g. look_weight (G.weighs g) case.now.parts part (leads (list_of book.now.lists part) source.now.id)) earlier.now }
+    requires own { own ≡ option_map (λ w. part_weight w case.now.parts part (leads (list_of book.now.lists part) source.now.id)) (G.weighs goal.now) }
+    ensures { result ≡ false → All (λ q. All (λ b. Step case.now (map (λ g. G.meaning g case.now) earlier.now) (G.meaning goal.now case.now) book.now.lists (Action.Swap part source.now.id q b) → ⊥) (list_of book.now.lists q)) scan.now.stirring.items }
+{
+    let _brokers = case.brokers();
+    let _lists = book.lists();
+    let stirring = scan.stirring.as_slice();
+    for other in stirring {
+        if some_of_serves(
+            case, book, earlier, goal, scan, part, source, outs, own, *other,
+        ) {
+            return true;
+        }
+    }
+    false
+}
+
+// Whether a swap of one replica may serve: where its partition doesn't stir, the other one has to.
+fn may_serve<G: Goal>(
+    case: &Case,
+    book: &LoadBook,
+    earlier: &[G],
+    goal: &G,
+    scan: &Scan,
+    part: u32,
+    source: &Row,
+    outs: &[u64],
+    own: Option<u64>,
+) -> bool
+    requires made { All (λ g. G.made_for g case.now) earlier.now }
+    requires made_goal { G.made_for goal.now case.now }
+    requires belongs { IsBookOf case.now book.now }
+    requires scan { IsScan G.weighs (λ g. G.room_at g case.now book.now.lists) (G.heat_at goal.now case.now book.now.lists) (G.stirs_at goal.now case.now book.now.lists) earlier.now case.now scan.now }
+    requires part { part < length case.now.parts }
+    requires source { IsRow G.weighs (λ g. G.room_at g case.now book.now.lists) (G.heat_at goal.now case.now book.now.lists) earlier.now source.now }
+    requires outs { outs.now ≡ map (λ g. look_weight (G.weighs g) case.now.parts part (leads (list_of book.now.lists part) source.now.id)) earlier.now }
+    requires own { own ≡ option_map (λ w. part_weight w case.now.parts part (leads (list_of book.now.lists part) source.now.id)) (G.weighs goal.now) }
+    ensures { result ≡ false → (q b : ℕ) → Step case.now (map (λ g. G.meaning g case.now) earlier.now) (G.meaning goal.now case.now) book.now.lists (Action.Swap part source.now.id q b) → ⊥ }
+{
+    let _brokers = case.brokers();
+    let _lists = book.lists();
+    if !may_be_swapped(case, part, source.id) {
+        return false;
+    }
+    if goal.stirs(case, book, part) {
+        return true;
+    }
+    some_stirring_serves(case, book, earlier, goal, scan, part, source, outs, own)
+}
+
 /// The first swap of one replica that serves, by the order of the brokers and of the replicas of each.
 pub fn first_swap<G: Goal>(
     case: &Case,
@@ -160,7 +279,7 @@ pub fn first_swap<G: Goal>(
     requires made_goal { G.made_for goal.now case.now }
     requires belongs { IsBookOf case.now book.now }
     requires order { IsOrderOf case.now book.now.lists order.now }
-    requires scan { IsScan G.weighs (λ g. G.room_at g case.now book.now.lists) (G.heat_at goal.now case.now book.now.lists) earlier.now case.now scan.now }
+    requires scan { IsScan G.weighs (λ g. G.room_at g case.now book.now.lists) (G.heat_at goal.now case.now book.now.lists) (G.stirs_at goal.now case.now book.now.lists) earlier.now case.now scan.now }
     requires part { part < length case.now.parts }
     requires source { IsRow G.weighs (λ g. G.room_at g case.now book.now.lists) (G.heat_at goal.now case.now book.now.lists) earlier.now source.now }
     ensures { MatchOption result
@@ -172,6 +291,9 @@ pub fn first_swap<G: Goal>(
     let own = goal.weight(case, part, first);
     let weights = scan.weights.as_slice();
     let outs = column(case, earlier, weights, part, first);
+    if !may_serve(case, book, earlier, goal, scan, part, source, outs, own) {
+        return None;
+    }
     let rows = scan.rows.as_slice();
     for (k, target) in rows.iter().enumerate() {
         let others = order.row(k);

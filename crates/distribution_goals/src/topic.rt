@@ -140,6 +140,7 @@ fn is_uneven(
 
 impl Goal for TopicReplicaDistributionGoal {
     ghost use Rattle.goal_terms.proofs.CaseLemmas.{Limits-case};
+    ghost use Rattle.goal_terms.proofs.PairLemmas.{stirred-still_parts};
     ghost use Rattle.goal_terms.proofs.TopicGoalLemmas.{topic-fits_120_bits, topic-cold_pairs};
 
     ghost meaning = { λ _ c. per_topic false (replica_rule (even c.options.topic_balance (units_of c))) c };
@@ -147,6 +148,8 @@ impl Goal for TopicReplicaDistributionGoal {
     ghost made_for = { λ g c. ⟦<Even<TopicBalance> as Band>⟧.made_for g.band c × (g.topics.items ≡ topics c.parts) };
 
     ghost heat_at = { λ _ c lists k. topic_heat (topics c.parts) (replica_rule (even c.options.topic_balance (units_of c))) c lists k };
+
+    ghost stirs_at = { λ _ _ _ _. true };
 
     ghost weighs = { λ _. None };
 
@@ -204,6 +207,10 @@ impl Goal for TopicReplicaDistributionGoal {
         Heat::Cold
     }
 
+    fn stirs(&self, _case: &Case, _book: &LoadBook, _part: u32) -> bool {
+        true
+    }
+
     fn weight(&self, _case: &Case, _part: u32, _leads: bool) -> Option<u64> {
         None
     }
@@ -219,6 +226,8 @@ impl Goal for TopicReplicaDistributionGoal {
     ghost small = { λ _ c lists made is_case fits. topic-fits_120_bits false c.options.topic_balance c lists made.0.0.small (Limits-case c is_case) fits };
 
     ghost cold_pairs = { λ _ c lists _ is_case fits. topic-cold_pairs false (replica_rule (even c.options.topic_balance (units_of c))) c lists (Limits-case c is_case) fits };
+
+    ghost still_parts = { λ _ c lists _ _ _. stirred-still_parts (per_topic false (replica_rule (even c.options.topic_balance (units_of c))) c) lists };
 
     ghost idle_trades = { λ _ _ _ _ _ _. tt };
 

@@ -15,7 +15,7 @@ use Rattle.plan_terms.proofs.RackLemmas.{rack_excess-le}
 use Rattle.goal_terms.specs.Bands.{units_of, whole_cap, at_most, within_capacity, even, near_use, below_use}
 use Rattle.goal_terms.specs.Goals.{ratio_at}
 use Rattle.goal_terms.specs.Limits.{SmallLoads, SmallWeights, SmallBounds}
-use Rattle.goal_terms.specs.Pairs.{ColdPairs, IdleTrades, giver, taker}
+use Rattle.goal_terms.specs.Pairs.{ColdPairs, IdleTrades, StillParts, giver, taker}
 use Rattle.goal_terms.specs.Partitions.{demoted_first, lost_members}
 use Rattle.goal_terms.specs.PerTopic.{replica_rule}
 use Rattle.goal_terms.specs.PerBroker.{Bounds, per_broker}
@@ -24,14 +24,14 @@ use Rattle.goal_terms.proofs.BandLemmas.{at_most-small, within_capacity-small, e
 use Rattle.goal_terms.proofs.BoundLemmas.{per_broker-fits_120_bits, replica-small, leader-small, load-small, potential_out-small, leader_in-small}
 use Rattle.goal_terms.proofs.CaseLemmas.{Limits-case}
 use Rattle.goal_terms.proofs.LeastLemmas.{least-small, least-cold_pairs}
-use Rattle.goal_terms.proofs.PairLemmas.{broker-cold_pairs, broker-idle_trades}
+use Rattle.goal_terms.proofs.PairLemmas.{broker-cold_pairs, broker-idle_trades, hot-cold_pairs, stirred-still_parts}
 use Rattle.goal_terms.proofs.RoomLemmas.{broker-rooms_decide, broker-rooms_stay}
 use Rattle.goal_terms.specs.Rooms.{RoomsDecide, broker_room}
 use Rattle.goal_terms.proofs.PartitionGoals.{demoted_first-le, lost_members-le}
-use Rattle.goal_terms.proofs.PartitionHeat.{partition-cold_pairs}
+use Rattle.goal_terms.proofs.PartitionHeat.{partition-still_parts}
 use Rattle.goal_terms.proofs.TopicGoalLemmas.{topic-fits_120_bits, topic-cold_pairs}
 use Rattle.goal_set.specs.Kinds.{meaning_of}
-use Rattle.goal_set.specs.AnyMeaning.{any_heat, any_room, any_made, any_meaning, any_weights}
+use Rattle.goal_set.specs.AnyMeaning.{any_heat, any_room, any_made, any_meaning, any_stirs, any_weights}
 use Rattle.goal_set.specs.declared.any.AnyGoal.{AnyGoal}
 use Rattle.goal_set.specs.declared.any.AnyGoal.TheVariants as any
 use Rattle.goal_set.specs.declared.kinds.GoalKind.{GoalKind}
@@ -88,15 +88,15 @@ any-small (any.LeaderBytesInDistribution g) c lists made is_case fits = broker-s
 
 -- an action of two cold brokers does not lessen it
 pub kind-cold_pairs : (k : GoalKind) (c : Cluster) (lists : Lists) → IsCase c → Belongs c lists → ColdPairs (meaning_of k c) (any_heat k c lists) lists
-kind-cold_pairs kind.Evacuation c lists is_case fits = partition-cold_pairs (lost_members c) true c lists fits
-kind-cold_pairs kind.RackAware c lists is_case fits = partition-cold_pairs (rack_excess c) true c lists fits
+kind-cold_pairs kind.Evacuation c lists is_case fits = hot-cold_pairs (per_partition true (lost_members c) c) lists
+kind-cold_pairs kind.RackAware c lists is_case fits = hot-cold_pairs (per_partition true (rack_excess c) c) lists
 kind-cold_pairs kind.MinTopicLeadersPerBroker c lists is_case fits = least-cold_pairs c lists (Limits-case c is_case) fits
 kind-cold_pairs kind.ReplicaCapacity c lists is_case fits = broker-cold_pairs true replica_weights (at_most c.options.max_replicas) c lists (Limits-case c is_case) fits
 kind-cold_pairs kind.DiskCapacity c lists is_case fits = broker-cold_pairs true (load_weights 3) (within_capacity (ratio_at c.options.limit 3) 3) c lists (Limits-case c is_case) fits
 kind-cold_pairs kind.NetworkInboundCapacity c lists is_case fits = broker-cold_pairs true (load_weights 1) (within_capacity (ratio_at c.options.limit 1) 1) c lists (Limits-case c is_case) fits
 kind-cold_pairs kind.NetworkOutboundCapacity c lists is_case fits = broker-cold_pairs true (load_weights 2) (within_capacity (ratio_at c.options.limit 2) 2) c lists (Limits-case c is_case) fits
 kind-cold_pairs kind.CpuCapacity c lists is_case fits = broker-cold_pairs true (load_weights 0) (within_capacity (ratio_at c.options.limit 0) 0) c lists (Limits-case c is_case) fits
-kind-cold_pairs kind.Demotion c lists is_case fits = partition-cold_pairs (demoted_first c) false c lists fits
+kind-cold_pairs kind.Demotion c lists is_case fits = hot-cold_pairs (per_partition false (demoted_first c) c) lists
 kind-cold_pairs kind.ReplicaDistribution c lists is_case fits = broker-cold_pairs false replica_weights (even c.options.replica_balance (units_of c)) c lists (Limits-case c is_case) fits
 kind-cold_pairs kind.PotentialNwOut c lists is_case fits = broker-cold_pairs false potential_out_weights (within_capacity (ratio_at c.options.limit 2) 2) c lists (Limits-case c is_case) fits
 kind-cold_pairs kind.DiskUsageDistribution c lists is_case fits = broker-cold_pairs false (load_weights 3) (near_use (ratio_at c.options.balance 3) 3 (whole_cap 3 c)) c lists (Limits-case c is_case) fits
@@ -106,6 +106,27 @@ kind-cold_pairs kind.CpuUsageDistribution c lists is_case fits = broker-cold_pai
 kind-cold_pairs kind.TopicReplicaDistribution c lists is_case fits = topic-cold_pairs false (replica_rule (even c.options.topic_balance (units_of c))) c lists (Limits-case c is_case) fits
 kind-cold_pairs kind.LeaderReplicaDistribution c lists is_case fits = broker-cold_pairs false leader_weights (even c.options.leader_balance (units_of c)) c lists (Limits-case c is_case) fits
 kind-cold_pairs kind.LeaderBytesInDistribution c lists is_case fits = broker-cold_pairs false leader_in_weights (below_use (ratio_at c.options.balance 1) 1 (whole_cap 1 c)) c lists (Limits-case c is_case) fits
+
+-- an action of partitions none of which stirs does not lessen the goal
+pub kind-still_parts : (k : GoalKind) (c : Cluster) (lists : Lists) → Belongs c lists → StillParts (meaning_of k c) (any_stirs k c lists) lists
+kind-still_parts kind.Evacuation c lists fits = partition-still_parts (lost_members c) true c lists fits
+kind-still_parts kind.RackAware c lists fits = partition-still_parts (rack_excess c) true c lists fits
+kind-still_parts kind.MinTopicLeadersPerBroker c lists fits = stirred-still_parts (meaning_of kind.MinTopicLeadersPerBroker c) lists
+kind-still_parts kind.ReplicaCapacity c lists fits = stirred-still_parts (meaning_of kind.ReplicaCapacity c) lists
+kind-still_parts kind.DiskCapacity c lists fits = stirred-still_parts (meaning_of kind.DiskCapacity c) lists
+kind-still_parts kind.NetworkInboundCapacity c lists fits = stirred-still_parts (meaning_of kind.NetworkInboundCapacity c) lists
+kind-still_parts kind.NetworkOutboundCapacity c lists fits = stirred-still_parts (meaning_of kind.NetworkOutboundCapacity c) lists
+kind-still_parts kind.CpuCapacity c lists fits = stirred-still_parts (meaning_of kind.CpuCapacity c) lists
+kind-still_parts kind.Demotion c lists fits = partition-still_parts (demoted_first c) false c lists fits
+kind-still_parts kind.ReplicaDistribution c lists fits = stirred-still_parts (meaning_of kind.ReplicaDistribution c) lists
+kind-still_parts kind.PotentialNwOut c lists fits = stirred-still_parts (meaning_of kind.PotentialNwOut c) lists
+kind-still_parts kind.DiskUsageDistribution c lists fits = stirred-still_parts (meaning_of kind.DiskUsageDistribution c) lists
+kind-still_parts kind.NetworkInboundUsageDistribution c lists fits = stirred-still_parts (meaning_of kind.NetworkInboundUsageDistribution c) lists
+kind-still_parts kind.NetworkOutboundUsageDistribution c lists fits = stirred-still_parts (meaning_of kind.NetworkOutboundUsageDistribution c) lists
+kind-still_parts kind.CpuUsageDistribution c lists fits = stirred-still_parts (meaning_of kind.CpuUsageDistribution c) lists
+kind-still_parts kind.TopicReplicaDistribution c lists fits = stirred-still_parts (meaning_of kind.TopicReplicaDistribution c) lists
+kind-still_parts kind.LeaderReplicaDistribution c lists fits = stirred-still_parts (meaning_of kind.LeaderReplicaDistribution c) lists
+kind-still_parts kind.LeaderBytesInDistribution c lists fits = stirred-still_parts (meaning_of kind.LeaderBytesInDistribution c) lists
 
 -- a trade that cannot lessen it does not
 pub kind-idle_trades : (k : GoalKind) (c : Cluster) (lists : Lists) → IsCase c → Belongs c lists → IfSome (any_weights k) (IdleTrades (meaning_of k c) (any_heat k c lists) c.parts lists)

@@ -1,18 +1,19 @@
 -- What a goal of any kind is for, and what it keeps of its case.
-use Rattle.std.specs.Prelude.{◌≡◌, ℕ, Option, Some, None}
+use Rattle.std.specs.Prelude.{◌≡◌, ℕ, Bool, true, Option, Some, None}
 use Rattle.plan_terms.specs.Cluster.{Cluster, Lists}
 use Rattle.plan_terms.specs.Faults.{topics}
 use Rattle.plan_terms.specs.Goal.{Meaning}
 use Rattle.plan_terms.specs.Racks.{rack_excess}
 use Rattle.goal_terms.specs.Bands.{units_of, whole_cap, at_most, within_capacity, even, near_use, below_use}
 use Rattle.goal_terms.specs.Goals.{ratio_at}
-use Rattle.goal_terms.specs.Heats.{broker_heat, partition_heat}
+use Rattle.goal_terms.specs.Heats.{broker_heat, has_excess}
 use Rattle.goal_terms.specs.LeastLeaders.{IsMadeFor, least_rule}
 use Rattle.goal_terms.specs.Partitions.{demoted_first, lost_members}
 use Rattle.goal_terms.specs.PerTopic.{topic_heat, replica_rule}
 use Rattle.goal_terms.specs.Quantity.{Weights, replica_weights, leader_weights, load_weights, potential_out_weights, leader_in_weights}
 use Rattle.goal_terms.specs.Rooms.{broker_room, free}
 use Rattle.goal_terms.specs.declared.heat.Heat.{Heat}
+use Rattle.goal_terms.specs.declared.heat.Heat.TheVariants.{Other}
 use Rattle.goal_terms.specs.declared.room.Room.{Room}
 use Rattle.broker_goals.specs.Made.{IsThreshold}
 use Rattle.goal_set.specs.Kinds.{meaning_of}
@@ -69,15 +70,15 @@ any_made (any.LeaderBytesInDistribution g) c = Unit {0} × (IsThreshold g.band.r
 
 -- where the quantity of the broker of an id lies
 abbrev pub any_heat : GoalKind → Cluster → Lists → ℕ → Heat
-any_heat kind.Evacuation c lists b = partition_heat (lost_members c) lists b
-any_heat kind.RackAware c lists b = partition_heat (rack_excess c) lists b
+any_heat kind.Evacuation c lists b = Other
+any_heat kind.RackAware c lists b = Other
 any_heat kind.MinTopicLeadersPerBroker c lists b = topic_heat (topics c.parts) (least_rule c) c lists b
 any_heat kind.ReplicaCapacity c lists b = broker_heat replica_weights (at_most c.options.max_replicas) c lists b
 any_heat kind.DiskCapacity c lists b = broker_heat (load_weights 3) (within_capacity (ratio_at c.options.limit 3) 3) c lists b
 any_heat kind.NetworkInboundCapacity c lists b = broker_heat (load_weights 1) (within_capacity (ratio_at c.options.limit 1) 1) c lists b
 any_heat kind.NetworkOutboundCapacity c lists b = broker_heat (load_weights 2) (within_capacity (ratio_at c.options.limit 2) 2) c lists b
 any_heat kind.CpuCapacity c lists b = broker_heat (load_weights 0) (within_capacity (ratio_at c.options.limit 0) 0) c lists b
-any_heat kind.Demotion c lists b = partition_heat (demoted_first c) lists b
+any_heat kind.Demotion c lists b = Other
 any_heat kind.ReplicaDistribution c lists b = broker_heat replica_weights (even c.options.replica_balance (units_of c)) c lists b
 any_heat kind.PotentialNwOut c lists b = broker_heat potential_out_weights (within_capacity (ratio_at c.options.limit 2) 2) c lists b
 any_heat kind.DiskUsageDistribution c lists b = broker_heat (load_weights 3) (near_use (ratio_at c.options.balance 3) 3 (whole_cap 3 c)) c lists b
@@ -87,6 +88,27 @@ any_heat kind.CpuUsageDistribution c lists b = broker_heat (load_weights 0) (nea
 any_heat kind.TopicReplicaDistribution c lists b = topic_heat (topics c.parts) (replica_rule (even c.options.topic_balance (units_of c))) c lists b
 any_heat kind.LeaderReplicaDistribution c lists b = broker_heat leader_weights (even c.options.leader_balance (units_of c)) c lists b
 any_heat kind.LeaderBytesInDistribution c lists b = broker_heat leader_in_weights (below_use (ratio_at c.options.balance 1) 1 (whole_cap 1 c)) c lists b
+
+-- whether an action of a partition may lessen the measure
+abbrev pub any_stirs : GoalKind → Cluster → Lists → ℕ → Bool
+any_stirs kind.Evacuation c lists p = has_excess (lost_members c) lists p
+any_stirs kind.RackAware c lists p = has_excess (rack_excess c) lists p
+any_stirs kind.MinTopicLeadersPerBroker c lists p = true
+any_stirs kind.ReplicaCapacity c lists p = true
+any_stirs kind.DiskCapacity c lists p = true
+any_stirs kind.NetworkInboundCapacity c lists p = true
+any_stirs kind.NetworkOutboundCapacity c lists p = true
+any_stirs kind.CpuCapacity c lists p = true
+any_stirs kind.Demotion c lists p = has_excess (demoted_first c) lists p
+any_stirs kind.ReplicaDistribution c lists p = true
+any_stirs kind.PotentialNwOut c lists p = true
+any_stirs kind.DiskUsageDistribution c lists p = true
+any_stirs kind.NetworkInboundUsageDistribution c lists p = true
+any_stirs kind.NetworkOutboundUsageDistribution c lists p = true
+any_stirs kind.CpuUsageDistribution c lists p = true
+any_stirs kind.TopicReplicaDistribution c lists p = true
+any_stirs kind.LeaderReplicaDistribution c lists p = true
+any_stirs kind.LeaderBytesInDistribution c lists p = true
 
 -- how much the broker of an id may give and take
 abbrev pub any_room : GoalKind → Cluster → Lists → ℕ → Room

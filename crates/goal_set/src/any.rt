@@ -1,7 +1,7 @@
 // A goal of any kind, as one type.
 ghost use Rattle.std.specs.Prelude.{◌≡◌, ◌<◌, ◌^◌, ◌↔◌, IfOk, IsTrue, length, map, option_map};
 ghost use Rattle.std.specs.List.{All};
-ghost use Rattle.goal_set.specs.AnyMeaning.{any_heat, any_room, any_made, any_meaning, any_weights, kind_of};
+ghost use Rattle.goal_set.specs.AnyMeaning.{any_heat, any_room, any_made, any_meaning, any_stirs, any_weights, kind_of};
 ghost use Rattle.goal_set.specs.Kinds.{meaning_of, meanings};
 
 use crate::kinds::GoalKind;
@@ -138,13 +138,15 @@ macro_rules! each_goal {
 }
 
 impl Goal for AnyGoal {
-    ghost use Rattle.goal_set.specs.AnyLaws.{any-small, kind-cold_pairs, kind-idle_trades, kind-rooms_decide, kind-rooms_stay};
+    ghost use Rattle.goal_set.specs.AnyLaws.{any-small, kind-cold_pairs, kind-idle_trades, kind-rooms_decide, kind-rooms_stay, kind-still_parts};
 
     ghost meaning = { λ g c. any_meaning g c };
 
     ghost made_for = { λ g c. any_made g c };
 
     ghost heat_at = { λ g c lists b. any_heat (kind_of g) c lists b };
+
+    ghost stirs_at = { λ g c lists p. any_stirs (kind_of g) c lists p };
 
     ghost weighs = { λ g. any_weights (kind_of g) };
 
@@ -174,6 +176,10 @@ impl Goal for AnyGoal {
         each_goal!(self, goal => goal.heat(case, book, broker))
     }
 
+    fn stirs(&self, case: &Case, book: &LoadBook, part: u32) -> bool {
+        each_goal!(self, goal => goal.stirs(case, book, part))
+    }
+
     fn weight(&self, case: &Case, part: u32, leads: bool) -> Option<u64> {
         each_goal!(self, goal => goal.weight(case, part, leads))
     }
@@ -189,6 +195,8 @@ impl Goal for AnyGoal {
     ghost small = { λ g c lists made is_case fits. any-small g c lists made is_case fits };
 
     ghost cold_pairs = { λ g c lists _ is_case fits. kind-cold_pairs (kind_of g) c lists is_case fits };
+
+    ghost still_parts = { λ g c lists _ _ fits. kind-still_parts (kind_of g) c lists fits };
 
     ghost idle_trades = { λ g c lists _ is_case fits. kind-idle_trades (kind_of g) c lists is_case fits };
 

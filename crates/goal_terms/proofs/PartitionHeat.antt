@@ -1,15 +1,15 @@
--- An action of two brokers that hold no member of a bad partition lessens no goal over partitions.
+-- An action of two brokers that hold no member of a bad partition lessens no goal over partitions, nor does one of good partitions.
 use Rattle.std.specs.Prelude.{nat_lt, IsTrue, ◌&&◌}
-use Rattle.std.proofs.Common.{◌≡◌, ℕ, ◌<◌, Bool, true, List, [], ◌∷◌, length, get_or, zero, suc, refl, arith, inl, inr, eq-eqb}
+use Rattle.std.proofs.Common.{◌≡◌, ℕ, ◌<◌, Bool, true, false, List, [], ◌∷◌, length, get_or, zero, suc, refl, arith, inl, inr, eq-eqb}
 use Rattle.std.specs.List.{list_any}
-use Rattle.std.proofs.lemmas.Bool.{and_from, or_left, or_right, lt-ltb, false≢true, cases_lt}
+use Rattle.std.proofs.lemmas.Bool.{and_from, or_left, or_right, or_parts, lt-ltb, ltb-false, false≢true, cases_lt}
 use Rattle.plan_terms.specs.Cluster.{Cluster, Lists, list_of, has}
 use Rattle.plan_terms.specs.Belongs.{Belongs}
 use Rattle.plan_terms.specs.Fits.{fits}
 use Rattle.plan_terms.specs.Effect.{replace, exchange_first}
 use Rattle.plan_terms.specs.Goal.{Lessens, per_partition}
-use Rattle.goal_terms.specs.Heats.{partition_heat}
-use Rattle.goal_terms.specs.Pairs.{giver, taker, ColdPairs}
+use Rattle.goal_terms.specs.Heats.{partition_heat, has_excess}
+use Rattle.goal_terms.specs.Pairs.{giver, taker, touches, ColdPairs, StillParts}
 use Rattle.plan_terms.proofs.EffectLemmas.{fits-Move, fits-Lead, fits-Swap}
 use Rattle.plan_terms.proofs.PartitionLemmas.{lessens-one, lessens-two}
 use Rattle.goal_terms.specs.declared.heat.Heat.TheVariants.{Cold}
@@ -53,3 +53,25 @@ module _ (f : List ℕ → ℕ) where
           | inl some ↦ not_cold lists p a swap.first swap.source some h
           | inr nothing ↦ not_cold lists q b swap.second swap.target (omega arith) i
         ]
+
+  -- an action of partitions without an excess lessens no goal over partitions
+  pub partition-still_parts : (hard : Bool) (c : Cluster) (lists : Lists) → Belongs c lists → StillParts (per_partition hard f c) (has_excess f lists) lists
+  partition-still_parts hard c lists belongs = record { none = none } where
+    none : (a : Action) → IsTrue (fits lists a) → touches (has_excess f lists) a ≡ false → Lessens (per_partition hard f c) lists a → ⊥
+    none (Move p a b) fit still less =
+        let l : p < length lists = (fits-Move lists p a b fit).within in
+        let lower = lessens-one hard f c lists belongs (Move p a b) p (replace a b (list_of lists p)) l refl less in
+        let none = ltb-false 0 (f (list_of lists p)) still in
+        omega arith
+    none (Lead p b) fit still less =
+        let l : p < length lists = (fits-Lead lists p b fit).within in
+        let lower = lessens-one hard f c lists belongs (Lead p b) p (exchange_first b (list_of lists p)) l refl less in
+        let none = ltb-false 0 (f (list_of lists p)) still in
+        omega arith
+    none (Swap p a q b) fit still less =
+        let swap = fits-Swap lists p a q b fit in
+        let lower = lessens-two hard f c lists belongs (Swap p a q b) p q (replace a b (list_of lists p)) (replace b a (list_of lists q)) swap.first swap.second swap.apart refl less in
+        let parts = or_parts (has_excess f lists p) (has_excess f lists q) still in
+        let one = ltb-false 0 (f (list_of lists p)) parts.0 in
+        let two = ltb-false 0 (f (list_of lists q)) parts.1 in
+        omega arith

@@ -1,7 +1,7 @@
 -- Whether a broker's quantity lies above or below its bounds.
-use Rattle.std.specs.Prelude.{ℕ, ◌*◌, ◌==◌, ◌&&◌, nat_lt, List, [], ◌∷◌, if◌then◌else◌}
+use Rattle.std.specs.Prelude.{ℕ, Bool, ◌*◌, ◌==◌, ◌&&◌, nat_lt, List, [], ◌∷◌, if◌then◌else◌}
 use Rattle.std.specs.List.{list_any}
-use Rattle.plan_terms.specs.Cluster.{Cluster, Lists, has}
+use Rattle.plan_terms.specs.Cluster.{Cluster, Lists, has, list_of}
 use Rattle.plan_terms.specs.declared.cluster.Broker.{Broker}
 use Rattle.goal_terms.specs.Quantity.{Weights, quantity, total}
 use Rattle.goal_terms.specs.PerBroker.{Bounds, unit_brokers}
@@ -24,3 +24,7 @@ broker_heat w b c lists k = heat_at_id (bound_heat b (total w c.parts lists) (qu
 -- for a goal over partitions: whether the broker holds a member of a partition with a positive excess
 abbrev pub partition_heat : (List ℕ → ℕ) → Lists → ℕ → Heat
 partition_heat f lists k = if list_any (λ list. has list k && nat_lt 0 (f list)) lists then Other else Cold
+
+-- for a goal over partitions: whether the partition has a positive excess
+abbrev pub has_excess : (List ℕ → ℕ) → Lists → ℕ → Bool
+has_excess f lists p = nat_lt 0 (f (list_of lists p))

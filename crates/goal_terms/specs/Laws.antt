@@ -14,9 +14,9 @@ use Rattle.plan_terms.specs.declared.cluster.Broker.{Broker}
 use Rattle.plan_terms.specs.declared.cluster.Part.{Part}
 use Rattle.goal_terms.specs.Bands.{units_of, whole_cap, low_of, rounded_up, at_most, within_capacity, even, near_use, below_use}
 use Rattle.goal_terms.specs.Goals.{AreRatios, replica_capacity_goal, capacity_goal, replica_distribution_goal, potential_out_goal, usage_distribution_goal, topic_distribution_goal, leader_distribution_goal, leader_in_goal}
-use Rattle.goal_terms.specs.Heats.{bound_heat, broker_heat, partition_heat}
+use Rattle.goal_terms.specs.Heats.{bound_heat, broker_heat, has_excess, partition_heat}
 use Rattle.goal_terms.specs.Limits.{Limits, SmallLoads, SmallWeights, SmallBounds}
-use Rattle.goal_terms.specs.Pairs.{giver, taker, ColdPairs, IdleTrades}
+use Rattle.goal_terms.specs.Pairs.{giver, taker, ColdPairs, IdleTrades, StillParts}
 use Rattle.goal_terms.specs.Partitions.{evacuation_goal, demotion_goal}
 use Rattle.goal_terms.specs.PerBroker.{Bounds, ids_of, unit_brokers, bound_excess, per_broker}
 use Rattle.goal_terms.specs.PerTopic.{TopicRule, rule_weights, replica_rule, per_topic, first_topic, second_topic, topic_heat}
@@ -99,6 +99,11 @@ ColdBrokersLessenNothing = (hard : Bool) (w : Weights) (b : Bounds) (c : Cluster
 abbrev pub ColdMembersLessenNothing : Type 0
 ColdMembersLessenNothing = (hard : Bool) (f : List ℕ → ℕ) (c : Cluster) (lists : Lists) → Belongs c lists
     → ColdPairs (per_partition hard f c) (partition_heat f lists) lists
+
+-- an action of partitions without an excess lessens no goal over partitions
+abbrev pub StillPartsLessenNothing : Type 0
+StillPartsLessenNothing = (hard : Bool) (f : List ℕ → ℕ) (c : Cluster) (lists : Lists) → Belongs c lists
+    → StillParts (per_partition hard f c) (has_excess f lists) lists
 
 -- trades that cannot help lessen no goal over brokers
 abbrev pub IdleTradesLessenNothing : Type 0

@@ -1,5 +1,5 @@
--- The two brokers of an action, and the laws by which a pair of brokers can be left out.
-use Rattle.std.specs.Prelude.{◌≡◌, ℕ, ◌≤◌, IsTrue, List, get_or}
+-- The two brokers of an action, its partitions, and the laws by which a pair of brokers or a partition can be left out.
+use Rattle.std.specs.Prelude.{◌≡◌, ℕ, ◌≤◌, Bool, false, ◌||◌, IsTrue, List, get_or}
 use Rattle.plan_terms.specs.Cluster.{Lists, list_of}
 use Rattle.plan_terms.specs.Goal.{Meaning, Lessens}
 use Rattle.plan_terms.specs.Fits.{fits}
@@ -25,6 +25,16 @@ taker (Swap p a q b) = b
 -- an action of two cold brokers does not lessen the goal
 pub record ColdPairs (g : Meaning) (heat : ℕ → Heat) (lists : Lists) : Type 0 where
   pub none : (a : Action) → IsTrue (fits lists a) → heat (giver lists a) ≡ Cold → heat (taker a) ≡ Cold → Lessens g lists a → ⊥
+
+-- one of the partitions that an action touches passes the test
+abbrev pub touches : (ℕ → Bool) → Action → Bool
+touches test (Move p a b) = test p
+touches test (Lead p b) = test p
+touches test (Swap p a q b) = test p || test q
+
+-- an action none of whose partitions stirs does not lessen the goal
+pub record StillParts (g : Meaning) (stirs : ℕ → Bool) (lists : Lists) : Type 0 where
+  pub none : (a : Action) → IsTrue (fits lists a) → touches stirs a ≡ false → Lessens g lists a → ⊥
 
 -- a trade of equal weights does not lessen the goal; nor does one by which a broker that isn't below its bounds gets no less
 -- and one that isn't above them no more

@@ -9,6 +9,6 @@ pub enum Heat {
     Above,
     /// The quantity is less than its lower bound.
     Below,
-    /// Something of the broker's exceeds a goal that isn't one over brokers.
+    /// The goal isn't one over brokers, and an action of the broker may help it.
     Other,
 }

@@ -13,7 +13,7 @@ ghost use Rattle.plan_terms.specs.declared.actions.Action.{Action};
 ghost use Rattle.goal_terms.specs.PerBroker.{per_broker};
 ghost use Rattle.goal_terms.specs.PerTopic.{per_topic, replica_rule};
 ghost use Rattle.goal_terms.specs.Quantity.{trade, replica_weights, leader_weights, load_weights, potential_out_weights, leader_in_weights};
-ghost use Rattle.goal_terms.specs.Laws.{CasesAreLimited, ActionsTrade, TotalsStay, QuantitiesAreSmall, MeasuresAreSmall, WeightsAreSmall, BoundsAreSmall, PartitionMeasuresAreSmall, TwoBrokersAccept, TwoBrokersLessen, BrokerRoomsDecide, RoomsStay, HeatsTell, ColdBrokersLessenNothing, ColdMembersLessenNothing, IdleTradesLessenNothing, QuantitiesAreSums, TotalsAreSums, ExcessesInNumbers, TopicsComeFirst, TopicsAddUp, TouchedTopicsAccept, ColdTopicsLessenNothing, TopicMeasuresAreSmall, GoalMeasuresAreSmall};
+ghost use Rattle.goal_terms.specs.Laws.{CasesAreLimited, ActionsTrade, TotalsStay, QuantitiesAreSmall, MeasuresAreSmall, WeightsAreSmall, BoundsAreSmall, PartitionMeasuresAreSmall, TwoBrokersAccept, TwoBrokersLessen, BrokerRoomsDecide, RoomsStay, HeatsTell, ColdBrokersLessenNothing, ColdMembersLessenNothing, StillPartsLessenNothing, IdleTradesLessenNothing, QuantitiesAreSums, TotalsAreSums, ExcessesInNumbers, TopicsComeFirst, TopicsAddUp, TouchedTopicsAccept, ColdTopicsLessenNothing, TopicMeasuresAreSmall, GoalMeasuresAreSmall};
 
 /// Brokers and partitions without a fault are within the limits.
 pub fn cases_are_limited()
@@ -88,6 +88,11 @@ pub fn cold_brokers_lessen_nothing()
 /// An action of two brokers, neither of which holds a member of a partition with an excess, lessens no goal over partitions.
 pub fn cold_members_lessen_nothing()
     ensures { ColdMembersLessenNothing }
+{}
+
+/// An action of partitions without an excess lessens no goal over partitions.
+pub fn still_parts_lessen_nothing()
+    ensures { StillPartsLessenNothing }
 {}
 
 /// An action that trades equal weights lessens no goal over brokers, nor does one that gives more to a broker that isn't

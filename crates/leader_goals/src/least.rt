@@ -273,12 +273,15 @@ impl MinTopicLeadersPerBrokerGoal {
 impl Goal for MinTopicLeadersPerBrokerGoal {
     ghost use Rattle.goal_terms.proofs.CaseLemmas.{Limits-case};
     ghost use Rattle.goal_terms.proofs.LeastLemmas.{least-small, least-cold_pairs};
+    ghost use Rattle.goal_terms.proofs.PairLemmas.{stirred-still_parts};
 
     ghost meaning = { λ _ c. least_leaders_goal c };
 
     ghost made_for = { λ g c. IsMadeFor g.topics.items g.floors.items c };
 
     ghost heat_at = { λ _ c lists k. topic_heat (topics c.parts) (least_rule c) c lists k };
+
+    ghost stirs_at = { λ _ _ _ _. true };
 
     ghost weighs = { λ _. None };
 
@@ -338,6 +341,10 @@ impl Goal for MinTopicLeadersPerBrokerGoal {
         Heat::Cold
     }
 
+    fn stirs(&self, _case: &Case, _book: &LoadBook, _part: u32) -> bool {
+        true
+    }
+
     fn weight(&self, _case: &Case, _part: u32, _leads: bool) -> Option<u64> {
         None
     }
@@ -353,6 +360,8 @@ impl Goal for MinTopicLeadersPerBrokerGoal {
     ghost small = { λ _ c lists made is_case fits. least-small c lists made.small (Limits-case c is_case) };
 
     ghost cold_pairs = { λ _ c lists _ is_case fits. least-cold_pairs c lists (Limits-case c is_case) fits };
+
+    ghost still_parts = { λ _ c lists _ _ _. stirred-still_parts (least_leaders_goal c) lists };
 
     ghost idle_trades = { λ _ _ _ _ _ _. tt };
 

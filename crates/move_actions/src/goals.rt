@@ -1,12 +1,12 @@
 // What a goal says of the lists and of an action.
-ghost use Rattle.goal_terms.specs.Pairs.{ColdPairs, IdleTrades, giver, taker};
+ghost use Rattle.goal_terms.specs.Pairs.{ColdPairs, IdleTrades, StillParts, giver, taker};
 ghost use Rattle.goal_terms.specs.PerBroker.{id_at};
 ghost use Rattle.goal_terms.specs.Quantity.{Weights, part_weight, total};
 ghost use Rattle.goal_terms.specs.Rooms.{RoomsDecide};
 ghost use Rattle.goal_terms.specs.declared.room.Room.{Room};
 ghost use Rattle.plan_terms.specs.declared.actions.Action.{Action};
 ghost use Rattle.goal_terms.specs.declared.heat.Heat.{Heat};
-ghost use Rattle.std.specs.Prelude.{◌≡◌, ◌<◌, ◌≤◌, ◌^◌, ◌↔◌, ℕ, IsTrue, IfSome, Option, option_map, length};
+ghost use Rattle.std.specs.Prelude.{◌≡◌, ◌<◌, ◌≤◌, ◌^◌, ◌↔◌, ℕ, Bool, IsTrue, IfSome, Option, option_map, length};
 ghost use Rattle.plan_terms.specs.Belongs.{Belongs, IsBookOf};
 ghost use Rattle.plan_terms.specs.Cluster.{Cluster, Lists};
 ghost use Rattle.plan_terms.specs.Effect.{after};
@@ -28,6 +28,9 @@ pub trait Goal {
 
     /// Where the quantity of the broker of an id lies.
     ghost heat_at: { Self → Cluster → Lists → ℕ → Heat };
+
+    /// Whether an action of a partition may lessen the measure.
+    ghost stirs_at: { Self → Cluster → Lists → ℕ → Bool };
 
     /// What the places of a list add to a broker's quantity, for a goal that has one.
     ghost weighs: { Self → Option Weights };
@@ -75,6 +78,13 @@ pub trait Goal {
         requires broker { broker < length case.now.brokers }
         ensures { result ≡ heat_at self.now case.now book.now.lists (id_at case.now.brokers broker) };
 
+    /// Whether an action of the partition may lessen the measure.
+    fn stirs(&self, case: &Case, book: &LoadBook, part: u32) -> bool
+        requires made { made_for self.now case.now }
+        requires belongs { IsBookOf case.now book.now }
+        requires part { part < length case.now.parts }
+        ensures { result ≡ stirs_at self.now case.now book.now.lists part };
+
     /// What one replica of a partition adds to its broker's quantity, as the leader or as a follower. `None` where the
     /// goal has no quantity of brokers.
     fn weight(&self, case: &Case, part: u32, leads: bool) -> Option<u64>
@@ -102,6 +112,9 @@ pub trait Goal {
 
     /// An action of two cold brokers doesn't lessen the measure.
     ghost cold_pairs: { (g : Self) (c : Cluster) (lists : Lists) → made_for g c → IsCase c → Belongs c lists → ColdPairs (meaning g c) (heat_at g c lists) lists };
+
+    /// An action none of whose partitions stirs doesn't lessen it.
+    ghost still_parts: { (g : Self) (c : Cluster) (lists : Lists) → made_for g c → IsCase c → Belongs c lists → StillParts (meaning g c) (stirs_at g c lists) lists };
 
     /// A trade of equal weights doesn't lessen it; nor does one that gives no less to a broker that isn't below its bounds
     /// and takes no less from one that isn't above them.

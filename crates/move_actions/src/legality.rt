@@ -46,7 +46,8 @@ pub fn is_lost(case: &Case, broker: u32) -> bool
     }
 }
 
-fn is_new(case: &Case, broker: u32) -> bool
+/// Whether the broker is one of the case, and being added.
+pub fn is_new(case: &Case, broker: u32) -> bool
     ensures { result ≡ some_broker (λ x. is_new x.state) case.now broker }
 {
     match case.broker(broker) {
@@ -61,7 +62,8 @@ fn may_gain(case: &Case, broker: u32) -> bool
     is_new(case, broker) || !case.any_new()
 }
 
-fn is_open(case: &Case, part: u32) -> bool
+/// Whether it is a partition of the case whose topic isn't excluded.
+pub fn is_open(case: &Case, part: u32) -> bool
     ensures { result ≡ is_open case.now.parts part }
 {
     let parts = case.parts();

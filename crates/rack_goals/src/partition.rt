@@ -1,14 +1,14 @@
 // Goals with one unit for each partition, whose excess is a number of its list.
-ghost use Rattle.goal_terms.specs.Heats.{partition_heat};
+ghost use Rattle.goal_terms.specs.Heats.{has_excess};
+ghost use Rattle.goal_terms.specs.declared.heat.Heat.TheVariants as heat;
 ghost use Rattle.goal_terms.specs.PerBroker.{id_at};
 ghost use Rattle.goal_terms.specs.Rooms.{free};
-ghost use Rattle.std.specs.List.{list_any};
-ghost use Rattle.std.specs.Prelude.{◌≡◌, ℕ, Bool, ◌<◌, ◌≤◌, ◌^◌, ◌↔◌, ◌&&◌, nat_lt, IsTrue, List, length, take, slice_set, false, ◌+◌, None};
+ghost use Rattle.std.specs.Prelude.{◌≡◌, ℕ, Bool, ◌<◌, ◌≤◌, ◌^◌, ◌↔◌, IsTrue, List, length, take, slice_set, false, ◌+◌, None};
 ghost use Rattle.plan_terms.specs.Cluster.{Cluster, Lists, list_of, has, leads};
 ghost use Rattle.plan_terms.specs.Effect.{replace, exchange_first, after};
 ghost use Rattle.plan_terms.specs.Goal.{Meaning, Accepts, Lessens, per_partition};
 
-use load_model::{Case, LoadBook, Replicas};
+use load_model::{Case, LoadBook};
 use move_actions::{Goal, Heat, Room, place_of};
 use plan_terms::Action;
 
@@ -101,30 +101,19 @@ fn excess_led_by<R: ListRule>(rule: &R, case: &Case, list: &[u32], to: u32) -> u
     rule.excess_of(case, &copy[..list.len()])
 }
 
-// Whether the broker of an id is a member of a list that exceeds the rule.
-fn holds_excess<R: ListRule>(rule: &R, case: &Case, lists: &[Replicas], broker: u32) -> bool
-    requires { R.made_for rule.now case.now }
-    ensures { result ≡ list_any (λ list. has list broker && nat_lt 0 (R.list_excess rule.now case.now list)) lists.now }
-{
-    for list in lists {
-        let members = list.as_slice();
-        if members.contains(&broker) && rule.excess_of(case, members) > 0 {
-            return true;
-        }
-    }
-    false
-}
-
 impl<R: ListRule> Goal for PartitionGoal<R> {
     ghost use Rattle.goal_terms.proofs.CaseLemmas.{Limits-case};
-    ghost use Rattle.goal_terms.proofs.PartitionHeat.{partition-cold_pairs};
+    ghost use Rattle.goal_terms.proofs.PairLemmas.{hot-cold_pairs};
+    ghost use Rattle.goal_terms.proofs.PartitionHeat.{partition-still_parts};
     ghost use Rattle.plan_terms.proofs.PartitionLemmas.{per_partition-fits_120_bits};
 
     ghost meaning = { λ g c. per_partition (R.hard g.rule) (R.list_excess g.rule c) c };
 
     ghost made_for = { λ g c. R.made_for g.rule c };
 
-    ghost heat_at = { λ g c lists k. partition_heat (R.list_excess g.rule c) lists k };
+    ghost heat_at = { λ _ _ _ _. heat.Other };
+
+    ghost stirs_at = { λ g c lists p. has_excess (R.list_excess g.rule c) lists p };
 
     ghost weighs = { λ _. None };
 
@@ -195,13 +184,13 @@ impl<R: ListRule> Goal for PartitionGoal<R> {
         }
     }
 
-    fn heat(&self, case: &Case, book: &LoadBook, broker: usize) -> Heat {
-        let id = case.brokers()[broker].id;
-        if holds_excess(&self.rule, case, book.lists().lists(), id) {
-            Heat::Other
-        } else {
-            Heat::Cold
-        }
+    // Which brokers hold what exceeds the rule isn't told: that takes a look at each list, and the partitions tell more.
+    fn heat(&self, _case: &Case, _book: &LoadBook, _broker: usize) -> Heat {
+        Heat::Other
+    }
+
+    fn stirs(&self, case: &Case, book: &LoadBook, part: u32) -> bool {
+        self.rule.excess_of(case, book.list(part as usize)) > 0
     }
 
     fn weight(&self, _case: &Case, _part: u32, _leads: bool) -> Option<u64> {
@@ -218,7 +207,9 @@ impl<R: ListRule> Goal for PartitionGoal<R> {
 
     ghost small = { λ g c lists _ is_case fits. let limits = Limits-case c is_case in per_partition-fits_120_bits (R.hard g.rule) (R.list_excess g.rule c) c lists fits limits.few_parts (R.within g.rule c) };
 
-    ghost cold_pairs = { λ g c lists _ _ fits. partition-cold_pairs (R.list_excess g.rule c) (R.hard g.rule) c lists fits };
+    ghost cold_pairs = { λ g c lists _ _ _. hot-cold_pairs (per_partition (R.hard g.rule) (R.list_excess g.rule c) c) lists };
+
+    ghost still_parts = { λ g c lists _ _ fits. partition-still_parts (R.list_excess g.rule c) (R.hard g.rule) c lists fits };
 
     ghost idle_trades = { λ _ _ _ _ _ _. tt };
 

@@ -1,8 +1,9 @@
-use Rattle.std.proofs.Common.{◌≡◌, ℕ, ◌∙◌, map, arith}
+use Rattle.std.proofs.Common.{◌≡◌, ℕ, ◌∙◌, map, arith, get_or, refl}
 use Rattle.goal_terms.specs.PerBroker.{ids_of}
 use Rattle.std.proofs.lemmas.List.{take_all}
-use Rattle.std.proofs.lemmas.List.Elements.{All-more}
+use Rattle.std.proofs.lemmas.List.Elements.{All-more, All-map}
 use Rattle.plan_terms.specs.Trace.{Step}
+use Rattle.plan_terms.specs.declared.cluster.Broker.{Broker}
 use Rattle.plan_terms.specs.declared.actions.Action.TheVariants.{Swap}
 use Rattle.candidate_order.specs.CandidateList.{replicas_of, NoStep}
 use Rattle.candidate_order.specs.declared.kept.Row.{Row}
@@ -50,3 +51,12 @@ returns g c =
     rw (by-rows (λ (r : Row). r.id) (λ (b : ℕ). map (λ q. Swap c.args.part c.args.source.now.id q b) (replicas_of case lists b)) c.as_slice-rows.result.now case.brokers rows_are)
     (none-flat (Step case (map (λ x. g.G.Goal.meaning x case) c.args.earlier.now) (g.G.Goal.meaning c.args.goal.now case) lists) (λ (r : Row). map (λ q. Swap c.args.part c.args.source.now.id q r.id) (replicas_of case lists r.id))
     c.as_slice-rows.result.now (rw (take_all c.loop-k.k c.as_slice-rows.result.now c.loop-k-test.false) at c.loop-k.invariant))
+
+pub returns-then-not-may_serve : goal.returns-then-not-may_serve
+returns-then-not-may_serve g c =
+    let case = c.args.case.now in
+    let lists = c.args.book.now.lists in
+    let P = Step case (map (λ x. g.G.Goal.meaning x case) c.args.earlier.now) (g.G.Goal.meaning c.args.goal.now case) lists in
+    none-flat P (λ (y : Broker). map (λ q. Swap c.args.part c.args.source.now.id q y.id) (replicas_of case lists y.id)) case.brokers
+    (λ k y l. All-map (λ x. P x → ⊥) (λ (q : ℕ). Swap c.args.part c.args.source.now.id q (get_or case.brokers k y).id) (replicas_of case lists (get_or case.brokers k y).id)
+    (λ j d m s. c.if-not-may_serve.ensures refl (get_or (replicas_of case lists (get_or case.brokers k y).id) j d) (get_or case.brokers k y).id s))
