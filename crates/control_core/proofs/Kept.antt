@@ -1,5 +1,5 @@
 -- For how many entries the journal keeps room, at most.
-use Rattle.std.proofs.Common.{◌+◌, ◌≤◌, Bool, true, false, not, cond, ℕ, length, arith}
+use Rattle.std.proofs.Common.{◌+◌, ◌≤◌, Bool, true, false, not, cond, length, arith}
 use Rattle.std.specs.Prelude.{is_some}
 use Rattle.std.proofs.lemmas.List.Sums.{count_by-le-length}
 use Rattle.exec_terms.specs.Words.{is_free}

@@ -1,7 +1,7 @@
 -- What is found among the open user tasks is found among all.
-use Rattle.std.proofs.Common.{◌≡◌, ◌∙◌, ℕ, ◌+◌, ◌<◌, ◌≤◌, Bool, true, false, not, ◌&&◌, cond, inl, inr, List, [], ◌∷◌, ◌++◌, set, length, get_or, refl, sym, ap, arith, zero, suc, zero-add, add-zero}
+use Rattle.std.proofs.Common.{◌≡◌, ◌∙◌, ℕ, ◌+◌, ◌<◌, Bool, true, false, not, ◌&&◌, cond, inl, inr, List, [], ◌∷◌, ◌++◌, set, length, get_or, refl, sym, ap, arith, zero, suc, zero-add, add-zero}
 use Rattle.std.specs.Prelude.{Option, Some, None, find, is_some, is_none, IfSome, ◌==◌}
-use Rattle.std.specs.List.{All, count_by, filter, list_any, position, range_with_len, zip}
+use Rattle.std.specs.List.{count_by, filter, list_any, position, range_with_len, zip}
 use Rattle.std.proofs.lemmas.Bool.{cases_eq, eq-eqb, ne_eqb, true≢false, false≢true}
 use Rattle.std.proofs.lemmas.List.{get_or_append_left, get_or-set_same, get_or-set_other, get_or_push, length-set, length-append}
 use Rattle.std.proofs.lemmas.List.Elements.{filter-append}

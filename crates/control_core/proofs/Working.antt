@@ -1,5 +1,5 @@
 -- What is known of the task of a lease.
-use Rattle.std.proofs.Common.{◌≡◌, ◌<◌, ◌≤◌, ℕ, true, length, arith}
+use Rattle.std.proofs.Common.{◌≡◌, ◌≢◌, ◌<◌, ◌≤◌, ℕ, true, length, refl, arith}
 use Rattle.std.specs.Prelude.{Result, Ok, Err, OnErr}
 use Rattle.std.proofs.lemmas.List.Folds.{list_any_at}
 use Rattle.exec_terms.specs.Words.{is_unfinished}
@@ -8,8 +8,11 @@ use Rattle.exec_terms.specs.Leases.{test_lease}
 use Rattle.exec_terms.specs.Valid.{IsValid}
 use Rattle.exec_terms.specs.declared.replies.LeaseFault.{LeaseFault}
 use Rattle.exec_terms.specs.declared.work.WorkKind.{WorkKind}
+use Rattle.exec_terms.specs.declared.work.WorkKind.TheVariants.{Copy as ForCopy, Commit as ForCommit, Cancel as ForCancel}
+use Rattle.exec_terms.specs.declared.task.Task.{Task}
 use Rattle.exec_terms.proofs.Calls.{worth}
 use Rattle.core_laws.proofs.Given.{flying}
+use Rattle.control_core.specs.LastWork.{last_list}
 
 -- the task of a lease that is worth it: it is unfinished, and its partition is known
 pub record IsWorking (s : State) (i : ℕ) : Type 0 where
@@ -35,3 +38,9 @@ working s lease kind i v e =
 pub anyhow : {T E : Type 0} (P : Type 0) (r : Result T E) → P → OnErr r P
 anyhow P (Ok x) p = tt
 anyhow P (Err e) p = p
+
+-- work that isn't a cancel leaves the new list
+pub new_list : (kind : WorkKind) → kind ≢ ForCancel → last_list kind ≡ (λ (t : Task). t.after)
+new_list ForCopy h = refl
+new_list ForCommit h = refl
+new_list ForCancel h = absurd (h refl)

@@ -1,3 +1,4 @@
 pub mod Desks
 pub mod Machines
 pub mod Books
+pub mod LastWork

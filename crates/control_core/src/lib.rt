@@ -4,6 +4,7 @@
 mod book;
 mod desk;
 mod journal;
+mod journaled;
 mod machine;
 mod movers;
 mod places;

@@ -2,7 +2,7 @@
 ghost use Rattle.plan_terms.specs.Belongs.{Belongs};
 
 use super::*;
-use cluster_gate::{Admin, FailingAdmin, MemoryCluster, MemoryCopier, copy_chunk};
+use cluster_gate::{FailingAdmin, MemoryCluster, MemoryCopier, copy_chunk};
 use cluster_json::read_cluster;
 use core_terms::{Event, Problem, Reply};
 use exec_terms::{Given, Work};
@@ -40,15 +40,17 @@ enum Step {
 
 // A book, and what its last planner and its last mover hold.
 #[derive(Drop)]
-struct Run<A: Admin> {
-    book: Book<A>,
+struct Run {
+    book: Book<FailingAdmin<MemoryCluster>>,
     copier: MemoryCopier,
     job: Option<(u64, Problem)>,
     work: Option<Given>,
 }
 
-fn run_of<A: Admin + Drop>(alloc: Global, text: &str, admin: A) -> Result<Run<A>, Fail> {
+// A book whose admin fails at the calls with these numbers, the first being 1.
+fn run_of(alloc: Global, text: &str, failing: Vec<u64>) -> Result<Run, Fail> {
     let file = read_cluster(alloc, text.as_bytes())?;
+    let admin = FailingAdmin::new(MemoryCluster::new(alloc), failing);
     let Ok(book) = Book::begin(alloc, file, admin) else {
         return Err("no book".into());
     };
@@ -91,7 +93,7 @@ fn copy(copier: &mut MemoryCopier, work: Option<Given>) -> Result<Event, Fail> {
     }
 }
 
-impl<A: Admin> Run<A> {
+impl Run {
     fn event(&mut self, alloc: Global, step: Step) -> Result<Event, Fail> {
         Ok(match step {
             Step::Remove => Event::Submit(ask(alloc, Op::RemoveBroker, &[0], false)?, None),
@@ -152,12 +154,7 @@ fn told(alloc: Global, reply: &Reply) -> Result<String, Fail> {
 }
 
 // Takes steps, each of which has its answer.
-fn steps<A: Admin>(
-    rt: &impl Abort,
-    alloc: Global,
-    run: &mut Run<A>,
-    rows: &[(Step, &str)],
-) -> Result<(), Fail> {
+fn steps(rt: &impl Abort, alloc: Global, run: &mut Run, rows: &[(Step, &str)]) -> Result<(), Fail> {
     for (step, wanted) in rows {
         let answer = run.step(alloc, *step)?;
         assert_eq!(rt; answer.as_str(), *wanted);
@@ -173,10 +170,10 @@ fn run_rows(
     rows: &[(Step, &str)],
     list: &[u32],
 ) -> Result<(), Fail> {
-    let mut run = run_of(alloc, text, MemoryCluster::new(alloc))?;
+    let mut run = run_of(alloc, text, Vec::new(alloc))?;
     steps(rt, alloc, &mut run, rows)?;
     assert!(rt; run.book.parts() > 0);
-    assert_eq!(rt; run.book.admin().list(0), list);
+    assert_eq!(rt; run.book.admin().inner().list(0), list);
     Ok(())
 }
 
@@ -279,8 +276,7 @@ fn run_failing(
     list: &[u32],
     entries: usize,
 ) -> Result<(), Fail> {
-    let admin = FailingAdmin::new(MemoryCluster::new(alloc), vec![in alloc; 2]?);
-    let mut run = run_of(alloc, TWO, admin)?;
+    let mut run = run_of(alloc, TWO, vec![in alloc; 2]?)?;
     steps(rt, alloc, &mut run, rows)?;
     assert!(rt; run.book.parts() > 0);
     assert_eq!(rt; run.book.admin().inner().list(0), list);

@@ -4,9 +4,9 @@ ghost use Rattle.cc_base.specs.Outside.{HasRisen};
 ghost use Rattle.exec_terms.specs.Leases.{test_lease};
 ghost use Rattle.exec_terms.specs.Machine.{any_unfinished, next_work};
 ghost use Rattle.exec_terms.specs.Valid.{IsValid};
-ghost use Rattle.exec_terms.specs.declared.work.WorkKind.TheVariants.{Commit as ForCommit, Cancel as ForCancel};
 ghost use Rattle.core_terms.specs.History.{is_outward};
 ghost use Rattle.core_terms.specs.Writes.{begun, told_after, written};
+ghost use Rattle.control_core.specs.LastWork.{last_list};
 
 use cc_base::Failed;
 use cluster_gate::Admin;
@@ -35,10 +35,10 @@ fn begin<A: Admin>(admin: &mut A, exec: &Exec) -> Result<(), Failed>
     admin.begin(given.part, exec.union(given.task))
 }
 
-// The task of a lease has its new list.
-fn commit<A: Admin>(admin: &mut A, exec: &Exec, lease: u64) -> Result<(), Failed>
+// The last work on the task of a lease: a commit writes its new list, and a cancel its old one.
+fn finish<A: Admin>(admin: &mut A, exec: &Exec, lease: u64, kind: WorkKind) -> Result<(), Failed>
     requires installed { A.parts admin.old ≡ length exec.now.base }
-    ensures told { OnOk result (A.told admin.new ≡ written (λ t. t.after) exec.now (A.told admin.old) (test_lease exec.now lease ForCommit)) }
+    ensures told { OnOk result (A.told admin.new ≡ written (last_list kind) exec.now (A.told admin.old) (test_lease exec.now lease kind)) }
     ensures failed { OnErr result (A.told admin.new ≡ A.told admin.old) }
     ensures parts { A.parts admin.new ≡ A.parts admin.old }
     ensures later { A.faults admin.old ≤ A.faults admin.new }
@@ -46,29 +46,14 @@ fn commit<A: Admin>(admin: &mut A, exec: &Exec, lease: u64) -> Result<(), Failed
     ensures busy { OnErr result (any_unfinished exec.now.tasks ≡ true) }
 {
     exec.state_is_valid();
-    let Ok(task) = exec.test_lease(lease, WorkKind::Commit) else {
+    let Ok(task) = exec.test_lease(lease, kind) else {
         return Ok(());
     };
     let proposal = exec.proposal(task);
-    admin.commit(proposal.part, proposal.after.as_slice())
-}
-
-// The task of a lease has its old list.
-fn cancel<A: Admin>(admin: &mut A, exec: &Exec, lease: u64) -> Result<(), Failed>
-    requires installed { A.parts admin.old ≡ length exec.now.base }
-    ensures told { OnOk result (A.told admin.new ≡ written (λ t. t.before) exec.now (A.told admin.old) (test_lease exec.now lease ForCancel)) }
-    ensures failed { OnErr result (A.told admin.new ≡ A.told admin.old) }
-    ensures parts { A.parts admin.new ≡ A.parts admin.old }
-    ensures later { A.faults admin.old ≤ A.faults admin.new }
-    ensures cause { OnErr result (HasRisen (A.faults admin.old) (A.faults admin.new)) }
-    ensures busy { OnErr result (any_unfinished exec.now.tasks ≡ true) }
-{
-    exec.state_is_valid();
-    let Ok(task) = exec.test_lease(lease, WorkKind::Cancel) else {
-        return Ok(());
-    };
-    let proposal = exec.proposal(task);
-    admin.cancel(proposal.part, proposal.before.as_slice())
+    match kind {
+        WorkKind::Cancel => admin.cancel(proposal.part, proposal.before.as_slice()),
+        _ => admin.commit(proposal.part, proposal.after.as_slice()),
+    }
 }
 
 /// Makes the call of the admin that goes with an event. A failed call changes no list.
@@ -85,8 +70,8 @@ pub fn write<A: Admin>(admin: &mut A, exec: &Exec, event: &Event) -> Result<(), 
 {
     match event {
         Event::Take => begin(admin, exec),
-        Event::Commit(lease) => commit(admin, exec, *lease),
-        Event::Cancel(lease) => cancel(admin, exec, *lease),
+        Event::Commit(lease) => finish(admin, exec, *lease, WorkKind::Commit),
+        Event::Cancel(lease) => finish(admin, exec, *lease, WorkKind::Cancel),
         _ => Ok(()),
     }
 }

@@ -1,4 +1,4 @@
-use Rattle.std.proofs.Common.{◌≡◌, ◌∙◌, ◌<◌, ℕ, List, length, rules, false, not, ap, sym}
+use Rattle.std.proofs.Common.{◌∙◌, ◌<◌, ℕ, List, length, rules, not, ap, sym}
 use Rattle.std.specs.Prelude.{◌==◌}
 use Rattle.std.specs.List.{filter}
 use Rattle.std.proofs.lemmas.List.{length-set}

@@ -1,0 +1,10 @@
+-- The last work on a task.
+use Rattle.std.specs.Prelude.{ℕ, List}
+use Rattle.exec_terms.specs.declared.task.Task.{Task}
+use Rattle.exec_terms.specs.declared.work.WorkKind.{WorkKind}
+use Rattle.exec_terms.specs.declared.work.WorkKind.TheVariants.{Cancel as ForCancel}
+
+-- the list that its partition has afterwards: after a cancel the old one, else the new one
+abbrev pub last_list : WorkKind → Task → List ℕ
+last_list ForCancel task = task.before
+last_list _ task = task.after

@@ -1,0 +1,60 @@
+// The book as one that threads share.
+ghost use Rattle.std.specs.Prelude.{◌≡◌};
+
+use crate::book::Book;
+use cluster_gate::Admin;
+use core_cases::OpenFile;
+use core_terms::{Event, Reply, StepFault};
+use turn_book::Journaled;
+
+impl<A: Admin> Journaled for Book<A> {
+    ghost use Rattle.core_terms.specs.Faults.{IsWant, blame_of};
+    ghost use Rattle.core_terms.specs.History.{is_outward, is_sure_after, reply_after, stirs};
+
+    type Opening = OpenFile;
+
+    type Event = Event;
+
+    type Reply = Reply;
+
+    type Fault = StepFault;
+
+    ghost opening = { λ b. b.file };
+
+    ghost journal = { λ b. b.journal };
+
+    ghost reply_of = { reply_after };
+
+    ghost sure = { is_sure_after };
+
+    ghost outward = { is_outward };
+
+    ghost blame_of = { blame_of };
+
+    ghost is_want = { IsWant };
+
+    ghost blamed = { λ b. b.failures };
+
+    ghost is_stirring = { stirs };
+
+    fn step(&mut self, event: Event) -> Result<Reply, (StepFault, Event)> {
+        let _before = self.failures();
+        Book::step(self, event)
+    }
+
+    fn stirs(reply: &Reply) -> bool {
+        !matches!(reply, Reply::NoJob(_) | Reply::Idle(_, _) | Reply::Shown(_))
+    }
+
+    fn blame(fault: &StepFault) -> u64 {
+        fault.blame()
+    }
+
+    fn entries(&self) -> u64 {
+        self.journal().len() as u64
+    }
+
+    fn blame_so_far(&self) -> u64 {
+        self.failures()
+    }
+}

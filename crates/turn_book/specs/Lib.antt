@@ -1,0 +1,5 @@
+pub mod Faults
+pub mod Rule
+pub mod Plays
+pub mod Known
+pub mod Passes
