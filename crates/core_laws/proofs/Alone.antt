@@ -1,7 +1,7 @@
 -- What one who works alone meets.
 use Rattle.std.proofs.Common.{◌≡◌, ◌∙◌, ℕ, ◌+◌, ◌<◌, ◌≤◌, Bool, true, false, not, ◌&&◌, cond, List, [], ◌∷◌, set, length, get_or, zero, suc, refl, sym, ap, subst, arith}
 use Rattle.std.specs.Prelude.{Option, Some, None, Result, Ok, Err, is_some, is_none, ◌==◌}
-use Rattle.std.specs.List.{All, count_by, list_all, list_any, position, zip}
+use Rattle.std.specs.List.{count_by, list_all, list_any, position, zip}
 use Rattle.std.proofs.lemmas.Bool.{and_from, eq-eqb, true≢false, false≢true}
 use Rattle.std.proofs.lemmas.List.{get_or-set_same, length-set}
 use Rattle.std.proofs.lemmas.Slice.Zip.{get_or-zip}
@@ -16,16 +16,14 @@ use Rattle.exec_terms.specs.declared.replies.Idle.{Idle}
 use Rattle.exec_terms.specs.declared.replies.LeaseFault.{LeaseFault}
 use Rattle.exec_terms.specs.declared.replies.LeaseFault.TheVariants.{Stale, AbortAsked}
 use Rattle.exec_terms.specs.declared.task.Task.{Task}
-use Rattle.exec_terms.specs.declared.work.Lease.{Lease}
-use Rattle.exec_terms.specs.declared.work.Work.{Work}
-use Rattle.exec_terms.specs.declared.work.Work.TheVariants.{Copy, Commit, Cancel}
+use Rattle.exec_terms.specs.declared.work.Work.TheVariants.{Copy}
 use Rattle.exec_terms.specs.declared.work.WorkKind.{WorkKind}
 use Rattle.exec_terms.specs.declared.work.WorkKind.TheVariants.{Copy as ForCopy, Commit as ForCommit, Cancel as ForCancel}
 use Rattle.exec_terms.specs.Words.{copies_left, holds, holds_for, is_aborting, is_cancel, is_completed, is_for, is_free}
-use Rattle.exec_terms.specs.Machine.{State, no_task, task_at, any_unfinished, next_work, taken, with_lease, after_take, after_launch}
-use Rattle.exec_terms.specs.Leases.{ended, given_under, held, held_by, held_for, test_lease, tested, one_copied, one_failed, committed, cancelled, phase_cancelled, reply_by, after_copied, after_copy_failed, after_commit, after_cancel, copied_reply, copy_failed_reply, commit_reply, cancel_reply}
+use Rattle.exec_terms.specs.Machine.{State, no_task, task_at, any_unfinished, next_work, taken, with_lease, after_take}
+use Rattle.exec_terms.specs.Leases.{held, held_by, test_lease, tested, one_copied, one_failed, committed, cancelled, phase_cancelled, reply_by, after_copied, after_copy_failed, after_commit, after_cancel}
 use Rattle.exec_terms.specs.Tally.{leases_out}
-use Rattle.exec_terms.specs.Valid.{IsValid, work_left}
+use Rattle.exec_terms.specs.Valid.{IsValid}
 use Rattle.exec_terms.proofs.Counts.{count_by-set, count_by-set_one}
 use Rattle.exec_terms.proofs.Take.{IsValid-take}
 use Rattle.exec_terms.proofs.WorkLeft.{position-None, same_place}
@@ -33,14 +31,12 @@ use Rattle.user_tasks.specs.declared.table.UserTask.{UserTask}
 use Rattle.user_tasks.specs.declared.table.Status.{Status}
 use Rattle.user_tasks.specs.declared.table.Status.TheVariants as status
 use Rattle.core_terms.specs.Ends.{Ends, IsFailureFor, IsPlanFor, Works}
-use Rattle.core_terms.specs.Input.{IsInput}
 use Rattle.core_terms.specs.State.{Core, Desk, Moment, moment_of, no_job, job_at}
 use Rattle.core_terms.specs.Jobs.{is_active, is_done_at_once, is_in_execution, no_user_task, plans_execution, planned_job, user_task_at, with_job, with_plan, with_status}
-use Rattle.core_terms.specs.Plans.{first_waiting, goal_failed, has_ticket, holder_of, is_failure_for, is_plan_for, planned, problem_at, problem_of_failure, problem_of_plan, refused, reply_take_job, ticketed, waits, with_failure}
+use Rattle.core_terms.specs.Plans.{first_waiting, goal_failed, has_ticket, holder_of, is_failure_for, is_plan_for, planned, problem_at, problem_of_failure, problem_of_plan, refused, reply_take_job, ticketed, waits}
 use Rattle.core_terms.specs.Problem.{ProblemView}
-use Rattle.core_terms.specs.Works.{copied, copied_told, commit_told, cancel_told, failed_told, ended_job, ends_execution, execution_ended, is_copy, is_receipt, is_receipt_of, moved, reason_of, take_told, with_exec}
+use Rattle.core_terms.specs.Works.{copied_told, commit_told, cancel_told, failed_told, ended_job, ends_execution, execution_ended, is_copy, is_receipt, moved, take_told, with_exec}
 use Rattle.core_terms.specs.Step.{reply_of, next}
-use Rattle.core_terms.specs.History.{is_sure, kept_for}
 use Rattle.core_terms.specs.Sound.{AreTasks, AreTickets, IsSound}
 use Rattle.core_terms.specs.declared.events.Event.{Event}
 use Rattle.core_terms.specs.declared.events.Event.TheVariants as event
@@ -48,7 +44,7 @@ use Rattle.core_terms.specs.declared.jobs.Job.{Job}
 use Rattle.core_terms.specs.declared.replies.Reply.{Reply}
 use Rattle.core_terms.specs.declared.replies.Reply.TheVariants as reply
 use Rattle.core_terms.proofs.Sameness.{sameness_is_equality}
-use Rattle.core_laws.specs.Alone.{IsDone, IsLess, IsOut, IsPlanned, IsQuiet, IdleIsDone, PlannedIsLess, TakenWorkIsOut, WorkedIsLess, active_jobs, is_idle, is_no_job, tickets_out}
+use Rattle.core_laws.specs.Alone.{IsOut, IsPlanned, IdleIsDone, PlannedIsLess, TakenWorkIsOut, WorkedIsLess, active_jobs, is_idle, is_no_job, tickets_out}
 use Rattle.core_laws.specs.Events.{ends_work, is_stale}
 use Rattle.core_laws.proofs.Counts.{count_by-absent, count_by-drop}
 use Rattle.core_laws.proofs.Evacuated.{none_of}
