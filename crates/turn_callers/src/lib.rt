@@ -1,8 +1,6 @@
-//! Two threads that share a book as one turn: what each was answered, and whose each entry of the journal is.
+//! Two threads that share a book as one turn: what each was answered, and that each entry of the journal is one's own.
 #![tactic(auto)]
 
 mod callers;
-#[cfg(test)]
-mod tests;
 
 pub use callers::{Shared, act_both};
