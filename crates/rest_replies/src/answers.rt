@@ -16,7 +16,7 @@ use crate::refusals::{
 use crate::shows::shown_value;
 use crate::texts::Code;
 use crate::told::Told;
-use core_terms::{Outcome, Reply, Shown};
+use core_terms::{Outcome, PumpEnd, Reply, Shown};
 use plan_terms::Memory;
 use serde_json::Value;
 use std::alloc::Global;

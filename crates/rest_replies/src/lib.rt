@@ -11,9 +11,9 @@ mod shows;
 mod texts;
 mod told;
 
+pub use core_terms::PumpEnd;
 pub use laws::memory_reply_is_a_reply;
 pub use replies::{MEMORY_REPLY, reply_bytes};
-pub use core_terms::PumpEnd;
 pub use told::Told;
 
 #[cfg(test)]
