@@ -79,7 +79,8 @@ module _ (v u w : Known) (k j l : Copies) (so_far : HasMade (AreSome v.rules u.s
 -- no round yet
 pub no_round : (v : Known) (k : Copies) → HasMade (AreSome v.rules v.seen) v v k k
 no_round v k = record {
-  made = []; copies = [];
+  made = [];
+  copies = [];
   own = sym (append-nil v.own);
   copied = no_copies k.made;
   is = (0, record { rounds = []; made_is = refl; did = tt; count_is = refl; copies_are = refl });

@@ -144,13 +144,27 @@ module _ {A : Type 0} (b c : BookView A) (k l : Copies) (input : IsInput b.file)
   pub pumped_alone : (steps : ℕ) (end : PumpEnd) → HasPumped (known_by_owner b) (known_by_owner c) k l steps end → HasPumpedAlone (known_by_owner b) (known_by_owner c) k l steps end
   pumped_alone steps end h =
       let made = made_is b.journal c.journal h.longer.0 h.made h.longer.1 h.own in
-      record { made = h.made; copies = h.copies; own = h.own; copied = h.copied;
+      record {
+        made = h.made;
+        copies = h.copies;
+        own = h.own;
+        copied = h.copied;
         is = (h.is, exact_pumped b.file input histories law b.journal h.longer.0 h.made h.copies (rw h.longer.1 legal) made steps end (rw h.longer.1 h.is));
-        failed = h.failed; rules = h.rules; longer = h.longer }
+        failed = h.failed;
+        rules = h.rules;
+        longer = h.longer;
+      }
 
   pub drained_alone : (end : DrainEnd) → HasDrained (known_by_owner b) (known_by_owner c) k l end → HasDrainedAlone (known_by_owner b) (known_by_owner c) k l end
   drained_alone end h =
       let made = made_is b.journal c.journal h.longer.0 h.made h.longer.1 h.own in
-      record { made = h.made; copies = h.copies; own = h.own; copied = h.copied;
+      record {
+        made = h.made;
+        copies = h.copies;
+        own = h.own;
+        copied = h.copied;
         is = (h.is, exact_drained b.file input histories law b.journal h.longer.0 h.made h.copies (rw h.longer.1 legal) made end (rw h.longer.1 h.is));
-        failed = h.failed; rules = h.rules; longer = h.longer }
+        failed = h.failed;
+        rules = h.rules;
+        longer = h.longer;
+      }

@@ -69,7 +69,9 @@ module _ {A : Type 0} (faults : A → ℕ) (b c : BookView A) (e : Event) where
   -- the book after an entry, and after a fault
   since_entry : c.file ≡ b.file → c.settled ≡ b.settled → faults b.admin ≤ faults c.admin → (c.failures ≡ b.failures) × (c.late ≡ b.late) → IsSince faults b c
   since_entry file settled later h = record {
-    file = file; settled = settled; later = later;
+    file = file;
+    settled = settled;
+    later = later;
     risen = λ l. absurd (omega (arith, h.0, l));
     late_stays = λ l. omega (arith, h.1, l);
     late = λ s l. absurd (omega (arith, h.0, l));
@@ -81,7 +83,9 @@ module _ {A : Type 0} (faults : A → ℕ) (b c : BookView A) (e : Event) where
 
   since_fault : (f : StepFault) → c.file ≡ b.file → c.settled ≡ b.settled → faults b.admin ≤ faults c.admin → IsStepFault faults b e c f → IsSince faults b c
   since_fault (AdminFault n) file settled later h = record {
-    file = file; settled = settled; later = later;
+    file = file;
+    settled = settled;
+    later = later;
     risen = λ l. h.1;
     late_stays = late_after b.settled h.4;
     late = λ s l. let k : c.late ≡ one_more b.late = rw s at h.4 in omega (arith, k);

@@ -30,12 +30,14 @@ lost_moved r q seen from to x y c e f g h = subst (λ z. IsLostCopy z seen to y 
 -- nothing was made
 pub nothing_made : (R : Standing → List Entry → Type 0) (v w : Known) (e : Event) (f : StepFault) (k : Copies) → IsUnasked v w e f → HasMade (IsBroken R v.rules w.seen) v w k k
 nothing_made R v w e f k u = record {
-  made = []; copies = [];
+  made = [];
+  copies = [];
   own = u.own ∙ sym (append-nil v.own);
   copied = no_copies k.made;
   is = inl (refl, refl);
   failed = risen_none k.faults k.faults (omega arith);
-  rules = u.rules; longer = u.longer;
+  rules = u.rules;
+  longer = u.longer;
 }
 
 -- where work was given back, its copy may be lost
@@ -44,17 +46,23 @@ lost_in : (v u w : Known) (g : Given) (a : HasAsked v u event.Take (reply.Work g
 lost_in v u w g a m c (inl h) = inl h
 lost_in v u w g a m c (inr h) = inr (record {
   entry = record { before = v.seen ++ a.between; event = event.Take };
-  front = []; back = m; among = refl; took = refl;
+  front = [];
+  back = m;
+  among = refl;
+  took = refl;
   lost = lost_moved u.rules v.rules (until m w.seen) u.seen ((v.seen ++ a.between) ++ event.Take ∷ []) (reply.Work g) (v.rules.reply (v.seen ++ a.between) event.Take) c a.rules a.seen a.replied h;
 })
 
 pub work_undone : (v u w : Known) (g : Given) (k l : Copies) → HasAsked v u event.Take (reply.Work g) → HasWorked u w (reply.Work g) k l undone → HasMade (IsBroken (IsWorkRound v.rules w.seen) v.rules w.seen) v w k l
 work_undone v u w g k l a e = record {
-  made = record { before = v.seen ++ a.between; event = event.Take } ∷ e.ended.made; copies = e.copies;
+  made = record { before = v.seen ++ a.between; event = event.Take } ∷ e.ended.made;
+  copies = e.copies;
   own = own_cons v.own u.own w.own (record { before = v.seen ++ a.between; event = event.Take }) e.ended.made a.own e.ended.own;
   copied = e.copied;
-  is = inr (inr ((refl, subst IsWork a.replied tt, end_moved u.rules v.rules w.seen u.seen ((v.seen ++ a.between) ++ event.Take ∷ []) undone (reply.Work g) (v.rules.reply (v.seen ++ a.between) event.Take) e.ended.made a.rules a.seen a.replied e.ended.is),
-    lost_in v u w g a e.ended.made e.copies e.named));
+  is = inr (inr (
+    (refl, subst IsWork a.replied tt, end_moved u.rules v.rules w.seen u.seen ((v.seen ++ a.between) ++ event.Take ∷ []) undone (reply.Work g) (v.rules.reply (v.seen ++ a.between) event.Take) e.ended.made a.rules a.seen a.replied e.ended.is),
+    lost_in v u w g a e.ended.made e.copies e.named,
+  ));
   failed = subst (λ n. HasRisenBy n k.faults l.faults) (sym (zero-add (failures_of e.ended.made))) e.failed;
   rules = e.ended.rules ∙ a.rules;
   longer = prefix_trans v.seen u.seen w.seen (prefix_twice v.seen a.between (event.Take ∷ []) u.seen a.seen) e.ended.longer;
@@ -62,7 +70,8 @@ work_undone v u w g k l a e = record {
 
 pub work_done : (v u w : Known) (g : Given) (k l : Copies) → HasAsked v u event.Take (reply.Work g) → HasWorked u w (reply.Work g) k l done → HasMade (IsRoundMade (IsWorkRound v.rules w.seen) v.rules w.seen done) v w k l
 work_done v u w g k l a e = record {
-  made = record { before = v.seen ++ a.between; event = event.Take } ∷ e.ended.made; copies = e.copies;
+  made = record { before = v.seen ++ a.between; event = event.Take } ∷ e.ended.made;
+  copies = e.copies;
   own = own_cons v.own u.own w.own (record { before = v.seen ++ a.between; event = event.Take }) e.ended.made a.own e.ended.own;
   copied = e.copied;
   is = ((refl, subst IsWork a.replied tt, end_moved u.rules v.rules w.seen u.seen ((v.seen ++ a.between) ++ event.Take ∷ []) done (reply.Work g) (v.rules.reply (v.seen ++ a.between) event.Take) e.ended.made a.rules a.seen a.replied e.ended.is), e.named);
@@ -91,7 +100,8 @@ pub job_done : (v u w : Known) (t : ℕ) (p : ProblemView) (k : Copies) → HasA
 job_done v u w t p k a e =
     let q = quiet_job u.rules w.seen u.seen done t p e.made e.is in
     record {
-      made = record { before = v.seen ++ a.between; event = event.PlanTake } ∷ e.made; copies = [];
+      made = record { before = v.seen ++ a.between; event = event.PlanTake } ∷ e.made;
+      copies = [];
       own = own_cons v.own u.own w.own (record { before = v.seen ++ a.between; event = event.PlanTake }) e.made a.own e.own;
       copied = no_copies k.made;
       is = ((refl, subst IsJob a.replied tt, end_moved u.rules v.rules w.seen u.seen ((v.seen ++ a.between) ++ event.PlanTake ∷ []) done (reply.Job t p) (v.rules.reply (v.seen ++ a.between) event.PlanTake) e.made a.rules a.seen a.replied e.is), sym q.0);
@@ -104,7 +114,8 @@ pub job_undone : (v u w : Known) (t : ℕ) (p : ProblemView) (k : Copies) → Ha
 job_undone v u w t p k a e =
     let q = quiet_job u.rules w.seen u.seen undone t p e.made e.is in
     record {
-      made = record { before = v.seen ++ a.between; event = event.PlanTake } ∷ e.made; copies = [];
+      made = record { before = v.seen ++ a.between; event = event.PlanTake } ∷ e.made;
+      copies = [];
       own = own_cons v.own u.own w.own (record { before = v.seen ++ a.between; event = event.PlanTake }) e.made a.own e.own;
       copied = no_copies k.made;
       is = inr (inr (inl (refl, subst IsJob a.replied tt, end_moved u.rules v.rules w.seen u.seen ((v.seen ++ a.between) ++ event.PlanTake ∷ []) undone (reply.Job t p) (v.rules.reply (v.seen ++ a.between) event.PlanTake) e.made a.rules a.seen a.replied e.is), inl (sym q.0)));
@@ -132,7 +143,8 @@ behind r seen x e n (Err f) m c (inr (inr h)) = inr (inr (inr ((e, n), h.0), los
 
 pub round_behind : (v u w : Known) (b : Bool) (k l : Copies) (o : Result Found StepFault) → HasAsked v u event.PlanTake (reply.NoJob b) → HasTaken u w k l o → HasRound v w k l o
 round_behind v u w b k l o a t = record {
-  made = record { before = v.seen ++ a.between; event = event.PlanTake } ∷ t.made; copies = t.copies;
+  made = record { before = v.seen ++ a.between; event = event.PlanTake } ∷ t.made;
+  copies = t.copies;
   own = own_cons v.own u.own w.own (record { before = v.seen ++ a.between; event = event.PlanTake }) t.made a.own t.own;
   copied = t.copied;
   is = behind v.rules w.seen (record { before = v.seen ++ a.between; event = event.PlanTake }) refl (subst IsNoJob a.replied tt) o t.made t.copies (subst (λ r. IsTaken r w.seen o t.made t.copies) a.rules t.is);

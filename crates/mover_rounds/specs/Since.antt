@@ -11,7 +11,8 @@ since_itself faults b = record { file = refl; settled = refl; later = omega arit
 -- and the same after two whiles
 pub since_on : {A : Type 0} (faults : A → ℕ) (b c d : BookView A) → IsSince faults b c → IsSince faults c d → IsSince faults b d
 since_on faults b c d p q = record {
-  file = q.file ∙ p.file; settled = q.settled ∙ p.settled;
+  file = q.file ∙ p.file;
+  settled = q.settled ∙ p.settled;
   later = omega (arith, p.later, q.later);
   risen = λ l. elim (cases_lt b.failures c.failures) [
     | inl m ↦ let h = p.risen m in omega (arith, h, q.later)

@@ -108,10 +108,7 @@ const ROWS: [Row; 9] = [
     Row {
         admin: &[2],
         copier: &[],
-        steps: &[
-            (Step::Pump(9), "AdminFault(1)"),
-            (Step::Drain, "Drained"),
-        ],
+        steps: &[(Step::Pump(9), "AdminFault(1)"), (Step::Drain, "Drained")],
         list: &[1],
         entries: 12,
     },
@@ -188,9 +185,7 @@ fn run_row(rt: &impl Abort, alloc: Global, row: &Row) -> Result<(), Fail> {
 }
 
 #[test]
-fn pumps_and_drains_end_as_their_admin_copier_and_stops_say(
-    rt: HostRuntime,
-) -> Result<(), Fail> {
+fn pumps_and_drains_end_as_their_admin_copier_and_stops_say(rt: HostRuntime) -> Result<(), Fail> {
     let alloc = rt.alloc();
     for row in &ROWS {
         run_row(&rt, alloc, row)?;

@@ -22,7 +22,7 @@ loop-why-smaller g c =
     let h = rw c.in-Ok-Worked.field-0-is at c.in-Ok-Worked.ensures.round in
     let j = c.journal-input.ensures in
     (round_worked c.loop-why.book c.one_round.new.asker (copier_of g.K.Copier.copies g.K.Copier.faults c.loop-why.copier) (copier_of g.K.Copier.copies g.K.Copier.faults c.one_round.new.copier)
-        j.input j.legal c.one_round.ensures.since.file c.every_history.ensures.histories c.every_event.ensures.refusals c.every_round.ensures.worked h).work
+    j.input j.legal c.one_round.ensures.since.file c.every_history.ensures.histories c.every_event.ensures.refusals c.every_round.ensures.worked h).work
 
 pub loop-why-preserved : goal.loop-why-preserved
 loop-why-preserved g c =
@@ -30,7 +30,7 @@ loop-why-preserved g c =
     let j = c.journal-input.ensures in
     let inv = c.loop-why.invariant in
     let less = round_worked c.loop-why.book c.one_round.new.asker (copier_of g.K.Copier.copies g.K.Copier.faults c.loop-why.copier) (copier_of g.K.Copier.copies g.K.Copier.faults c.one_round.new.copier)
-        j.input j.legal c.one_round.ensures.since.file c.every_history.ensures.histories c.every_event.ensures.refusals c.every_round.ensures.worked h in
+    j.input j.legal c.one_round.ensures.since.file c.every_history.ensures.histories c.every_event.ensures.refusals c.every_round.ensures.worked h in
     record {
       since = since_on g.A.Admin.faults c.args.book.now c.loop-why.book c.one_round.new.asker inv.since c.one_round.ensures.since;
       did = some_worked (known_by_owner c.args.book.now) (known_by_owner c.loop-why.book) (known_by_owner c.one_round.new.asker) (copier_of g.K.Copier.copies g.K.Copier.faults c.args.copier.now) (copier_of g.K.Copier.copies g.K.Copier.faults c.loop-why.copier) (copier_of g.K.Copier.copies g.K.Copier.faults c.one_round.new.copier) inv.did h;
@@ -50,7 +50,7 @@ returns-in-Ok-Planned-clause-by g c =
     let j = c.journal-input.ensures in
     let inv = c.loop-why.invariant in
     let less = round_planned c.loop-why.book c.one_round.new.asker (copier_of g.K.Copier.copies g.K.Copier.faults c.loop-why.copier) (copier_of g.K.Copier.copies g.K.Copier.faults c.one_round.new.copier)
-        j.input j.legal c.one_round.ensures.since.file c.every_history.ensures.histories c.every_event.ensures.refusals c.every_round.ensures.planned h in
+    j.input j.legal c.one_round.ensures.since.file c.every_history.ensures.histories c.every_event.ensures.refusals c.every_round.ensures.planned h in
     (omega (arith, inv.jobs, less.jobs), quiet_planned (state_of c.loop-why.book).desk (state_of c.one_round.new.asker).desk less inv.quiet)
 
 pub returns-in-Ok-Idle-clause-found : goal.returns-in-Ok-Idle-clause-found
@@ -63,7 +63,7 @@ returns-in-Ok-Idle-clause-by g c =
     let h = rw c.in-Ok-Idle.field-0-is at c.in-Ok-Idle.ensures.round in
     let j = c.journal-input.ensures in
     round_idle c.loop-why.book c.one_round.new.asker (copier_of g.K.Copier.copies g.K.Copier.faults c.loop-why.copier) (copier_of g.K.Copier.copies g.K.Copier.faults c.one_round.new.copier)
-        j.input j.legal c.one_round.ensures.since.file c.every_history.ensures.histories c.every_event.ensures.refusals c.every_round.ensures.idle c.in-Ok-Idle.why c.in-Ok-Idle.closing c.loop-why.invariant.quiet h
+    j.input j.legal c.one_round.ensures.since.file c.every_history.ensures.histories c.every_event.ensures.refusals c.every_round.ensures.idle c.in-Ok-Idle.why c.in-Ok-Idle.closing c.loop-why.invariant.quiet h
 
 pub returns-in-Err-clause-found : goal.returns-in-Err-clause-found
 returns-in-Err-clause-found g c =

@@ -12,7 +12,7 @@ pub returns-in-Err-Failed-clause-worked : goal.returns-in-Err-Failed-clause-work
 returns-in-Err-Failed-clause-worked g c =
     let e = c.end_with-in-Err-Failed.ensures in
     worked_plain _ _ c.args.given (copier_of g.K.Copier.copies g.K.Copier.faults c.args.copier.now) (copier_of g.K.Copier.copies g.K.Copier.faults c.copy_chunk.new.copier) _ c.end_with-in-Err-Failed.result
-        (ap (is_for ForCopy) c.requires, refl) refl c.in-Err-Failed.ensures.failed c.copy_chunk.ensures.later (c.copy_chunk.ensures.cause (c.in-Err-Failed.is ∙ ap Err c.in-Err-Failed.field-0-is)) e.added e.failed
+    (ap (is_for ForCopy) c.requires, refl) refl c.in-Err-Failed.ensures.failed c.copy_chunk.ensures.later (c.copy_chunk.ensures.cause (c.in-Err-Failed.is ∙ ap Err c.in-Err-Failed.field-0-is)) e.added e.failed
 
 pub returns-in-Err-Memory-clause-worked : goal.returns-in-Err-Memory-clause-worked
 returns-in-Err-Memory-clause-worked g c = worked_back _ _ c.args.given (copier_of g.K.Copier.copies g.K.Copier.faults c.args.copier.now) (copier_of g.K.Copier.copies g.K.Copier.faults c.copy_chunk.new.copier) c.give_back.ensures.returned c.in-Err-Memory.ensures.failed c.copy_chunk.ensures.later
