@@ -1,0 +1,4 @@
+pub mod Placing
+pub mod Stepping
+pub mod Looping
+pub mod Closing

@@ -1,0 +1,4 @@
+pub mod Callers
+pub mod Since
+pub mod Steps
+pub mod Loops
