@@ -16,3 +16,6 @@ pub use commands::{
 };
 pub use live::wants_live;
 pub use words::read_words;
+
+#[cfg(test)]
+mod tests;
