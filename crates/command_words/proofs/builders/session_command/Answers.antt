@@ -1,0 +1,19 @@
+use Rattle.std.proofs.Common.{◌≡◌, ◌∙◌, ap₂, false, ◌||◌, codes}
+use Rattle.std.proofs.lemmas.Result.{IfOk-weaker}
+use Rattle.clap.specs.Words.{app_of, new_app, with_rule}
+use Rattle.clap.specs.declared.builder.command.Command.TheViews.{out-Command}
+use Rattle.command_words.specs.Arguments.{file_rule, movers_rule, planners_rule}
+use Rattle.command_words.proofs.builders.session_command.Goals as goal
+
+pub returns : goal.returns
+returns c =
+    let s0 = c.new-named.ensures.app in
+    let l0 = c.new-named.ensures.local in
+    let s1 : app_of c.in_ok-with_file.with_file ≡ with_rule (new_app (codes "session")) file_rule = c.in_ok-with_file.ensures.shape c.file.ensures.local ∙ ap₂ with_rule s0 c.file.ensures.rule in
+    let l1 : (out-Command c.in_ok-with_file.with_file).has_globals ≡ false = c.in_ok-with_file.ensures.globals ∙ ap₂ ◌||◌ l0 c.file.ensures.local in
+    let s2 : app_of c.in_ok-with_movers.with_movers ≡ with_rule (with_rule (new_app (codes "session")) file_rule) movers_rule = c.in_ok-with_movers.ensures.shape c.movers.ensures.local ∙ ap₂ with_rule s1 c.movers.ensures.rule in
+    let l2 : (out-Command c.in_ok-with_movers.with_movers).has_globals ≡ false = c.in_ok-with_movers.ensures.globals ∙ ap₂ ◌||◌ l1 c.movers.ensures.local in
+    record {
+      app = IfOk-weaker c.arg-3.result _ _ (λ r h. h.shape c.planners.ensures.local ∙ ap₂ with_rule s2 c.planners.ensures.rule) c.arg-3.ensures;
+      local = IfOk-weaker c.arg-3.result _ _ (λ r h. h.globals ∙ ap₂ ◌||◌ l2 c.planners.ensures.local) c.arg-3.ensures;
+    }

@@ -1,0 +1,4 @@
+pub mod Arguments
+pub mod Live
+pub mod Meaning
+pub mod Names
