@@ -1,0 +1,137 @@
+// A listener and links over the system's sockets. Nothing is told of them. Each failure is counted, by a count that stays
+// at its greatest value.
+ghost use Rattle.std.specs.Prelude.{◌≡◌, None, refl};
+
+use crate::listener::Listener;
+use cc_base::{Failed, Link, Sink, Source};
+use std::io::{self, Read, Write};
+use std::net::{Net, OpenListener, TcpListener};
+
+/// A connection of the system. Nothing is told of its bytes, and a call that was interrupted (`ErrorKind::Interrupted`)
+/// counts as a fault, as does a read after the other side reset the connection, and a write that takes none of some bytes.
+#[derive(Drop)]
+pub struct HostLink<S> {
+    stream: S,
+    source_faults: u64,
+    sink_faults: u64,
+}
+
+impl<S: Read + Write> HostLink<S> {
+    /// A link over this stream.
+    pub fn new(stream: S) -> Self
+        ensures source { ⟦<Self as Source>⟧.faults result ≡ 0 }
+        ensures sink { ⟦<Self as Sink>⟧.faults result ≡ 0 }
+    {
+        HostLink {
+            stream,
+            source_faults: 0,
+            sink_faults: 0,
+        }
+    }
+}
+
+impl<S: Read + Write> Source for HostLink<S> {
+    ghost faults = { λ link. link.source_faults };
+
+    ghost left = { λ _. None };
+
+    ghost beside = { λ link. (link.sink_faults, None) };
+
+    fn read(&mut self, buf: &mut [u8]) -> Result<usize, Failed> {
+        match self.stream.read(buf) {
+            Ok(n) => Ok(n),
+            Err(_) => {
+                self.source_faults = self.source_faults.saturating_add(1);
+                Err(Failed)
+            }
+        }
+    }
+}
+
+impl<S: Read + Write> Sink for HostLink<S> {
+    ghost faults = { λ link. link.sink_faults };
+
+    ghost written = { λ _. None };
+
+    ghost beside = { λ link. (link.source_faults, None) };
+
+    fn write(&mut self, bytes: &[u8]) -> Result<usize, Failed> {
+        match self.stream.write(bytes) {
+            Ok(n) if n > 0 || bytes.is_empty() => Ok(n),
+            _ => {
+                self.sink_faults = self.sink_faults.saturating_add(1);
+                Err(Failed)
+            }
+        }
+    }
+}
+
+impl<S: Read + Write> Link for HostLink<S> {
+    ghost beside_source = { λ _. refl };
+
+    ghost beside_sink = { λ _. refl };
+}
+
+/// A listener of the system. Nothing is told of the links that it accepted, and a call that was interrupted
+/// (`ErrorKind::Interrupted`) counts as a fault.
+#[derive(Drop)]
+pub struct HostListener<R: Net> {
+    rt: R,
+    listener: Option<R::Listener>,
+    faults: u64,
+}
+
+impl<R: Net> HostListener<R> {
+    /// A listener on the network that this runtime reaches. It has no address yet.
+    pub fn new(rt: R) -> Self
+        ensures { ⟦<Self as Listener>⟧.faults result ≡ 0 }
+    {
+        HostListener {
+            rt,
+            listener: None,
+            faults: 0,
+        }
+    }
+
+    // The next connection, where there is an address.
+    fn next_stream(&self) -> io::Result<R::Stream> {
+        let listener = self
+            .listener
+            .as_ref()
+            .ok_or(io::Error::from(io::ErrorKind::NotConnected))?;
+        Ok(listener.accept()?.0)
+    }
+}
+
+impl<R: Net> Listener for HostListener<R> {
+    type Conn = HostLink<R::Stream>;
+
+    ghost faults = { λ listener. listener.faults };
+
+    ghost accepted = { λ _. None };
+
+    /// Where the call fails, an earlier address is kept.
+    fn listen(&mut self, address: &str) -> Result<(), Failed> {
+        match TcpListener::bind(&self.rt, address) {
+            Ok(listener) => {
+                self.listener = Some(listener);
+                Ok(())
+            }
+            Err(_) => {
+                self.faults = self.faults.saturating_add(1);
+                Err(Failed)
+            }
+        }
+    }
+
+    /// Waits for a link. Fails where [`listen`](Self::listen) never went through.
+    fn accept(&mut self) -> Result<HostLink<R::Stream>, Failed> {
+        match self.next_stream() {
+            Ok(stream) => Ok(HostLink::new(stream)),
+            Err(_) => {
+                self.faults = self.faults.saturating_add(1);
+                Err(Failed)
+            }
+        }
+    }
+}

@@ -1,0 +1,39 @@
+// The trait of what accepts links.
+ghost use Rattle.std.specs.Prelude.{◌≡◌, ℕ, List, Option, IfOk, OnErr};
+ghost use Rattle.cc_base.specs.Outside.{HasCause};
+ghost use Rattle.net_links.specs.Links.{AcceptedLink, IsFresh, with_link};
+
+use cc_base::{Failed, Link};
+
+/// What listens at an address, and accepts the links that come there.
+pub trait Listener {
+    /// The links that it accepts.
+    type Conn: Link;
+
+    /// How many calls have failed.
+    ghost faults: { Self → ℕ };
+
+    /// The links that were accepted, in order, where they are told.
+    ghost accepted: { Self → Option (List AcceptedLink) };
+
+    /// Listens at an address, `HOST:PORT`. The port 0 stands for one that the system chooses.
+    ///
+    /// # Errors
+    ///
+    /// `Failed` where the call fails.
+    fn listen(&mut self, address: &str) -> Result<(), Failed>
+        ensures cause { HasCause (faults self.old) (faults self.new) result }
+        ensures accepted { accepted self.new ≡ accepted self.old };
+
+    /// The next link. Nothing was written to it yet.
+    ///
+    /// # Errors
+    ///
+    /// `Failed` where the call fails. No link is accepted then.
+    fn accept(&mut self) -> Result<Self::Conn, Failed>
+        ensures cause { HasCause (faults self.old) (faults self.new) result }
+        ensures accepted { IfOk result (λ link. accepted self.new ≡ with_link (accepted self.old)
+            (record { source_faults = Self.Conn.Source.faults link; sink_faults = Self.Conn.Sink.faults link; left = Self.Conn.left link })) }
+        ensures fresh { IfOk result (λ link. IsFresh (Self.Conn.written link)) }
+        ensures failed { OnErr result (accepted self.new ≡ accepted self.old) };
+}
