@@ -1,6 +1,8 @@
 // A listener and links over the system's sockets. Nothing is told of them. Each failure is counted, by a count that stays
 // at its greatest value.
-ghost use Rattle.std.specs.Prelude.{◌≡◌, None, refl};
+ghost use Rattle.std.specs.Prelude.{◌≡◌, None, refl, IfOk, IsErr, IsSome, OnErr, OnOk};
+ghost use Rattle.net_links.specs.Links.{IsFresh, with_link};
+ghost use Rattle.cc_base.specs.Outside.{HasCause};
 
 use crate::listener::Listener;
 use cc_base::{Failed, Link, Sink, Source};
@@ -94,7 +96,9 @@ impl<R: Net> HostListener<R> {
     }
 
     // The next connection, where there is an address.
-    fn next_stream(&self) -> io::Result<R::Stream> {
+    fn next_stream(&self) -> io::Result<R::Stream>
+        ensures { self.now.listener ≡ None → IsErr result }
+    {
         let listener = self
             .listener
             .as_ref()
@@ -111,7 +115,11 @@ impl<R: Net> Listener for HostListener<R> {
     ghost accepted = { λ _. None };
 
     /// Where the call fails, an earlier address is kept.
-    fn listen(&mut self, address: &str) -> Result<(), Failed> {
+    fn listen(&mut self, address: &str) -> Result<(), Failed>
+        ensures bound { OnOk result (IsSome self.new.listener) }
+        ensures cause { HasCause self.old.faults self.new.faults result }
+        ensures accepted { ⟦<Self as Listener>⟧.accepted self.new ≡ ⟦<Self as Listener>⟧.accepted self.old }
+    {
         match TcpListener::bind(&self.rt, address) {
             Ok(listener) => {
                 self.listener = Some(listener);
@@ -125,7 +133,14 @@ impl<R: Net> Listener for HostListener<R> {
     }
 
     /// Waits for a link. Fails where [`listen`](Self::listen) never went through.
-    fn accept(&mut self) -> Result<HostLink<R::Stream>, Failed> {
+    fn accept(&mut self) -> Result<HostLink<R::Stream>, Failed>
+        ensures unbound { self.old.listener ≡ None → IsErr result }
+        ensures cause { HasCause self.old.faults self.new.faults result }
+        ensures accepted { IfOk result (λ link. ⟦<Self as Listener>⟧.accepted self.new ≡ with_link (⟦<Self as Listener>⟧.accepted self.old)
+            (record { source_faults = ⟦<HostLink<R::Stream> as Source>⟧.faults link; sink_faults = ⟦<HostLink<R::Stream> as Sink>⟧.faults link; left = ⟦<HostLink<R::Stream> as Source>⟧.left link })) }
+        ensures fresh { IfOk result (λ link. IsFresh (⟦<HostLink<R::Stream> as Sink>⟧.written link)) }
+        ensures failed { OnErr result (⟦<Self as Listener>⟧.accepted self.new ≡ ⟦<Self as Listener>⟧.accepted self.old) }
+    {
         match self.next_stream() {
             Ok(stream) => Ok(HostLink::new(stream)),
             Err(_) => {
