@@ -1,0 +1,150 @@
+-- The requests of a link, their own entries and their replies.
+use Rattle.std.specs.Prelude.{◌≡◌, ⊤, ℕ, List, [], ◌∷◌, ◌++◌, ◌⊎◌, map, Option, Some, None, IfSome, Result, Ok, Err}
+use Rattle.std.specs.List.{AllByRecursion}
+use Rattle.cc_base.specs.Outside.{HasRisen, IsPrefixOut, appended}
+use Rattle.cluster_gate.specs.declared.copier.ChunkCopy.{ChunkCopy}
+use Rattle.core_terms.specs.declared.events.Event.{Event}
+use Rattle.core_terms.specs.declared.faults.StepFault.TheVariants as step
+use Rattle.mover_rounds.specs.Asked.{Entry, Known, Rules}
+use Rattle.mover_rounds.specs.Made.{Copies, HasMade}
+use Rattle.rest_parse.specs.Calls.{meaning}
+use Rattle.rest_stream.specs.Stream.{Requests, closed, stopped}
+use Rattle.rest_stream.specs.Whole.{Leads}
+use Rattle.rest_stream.specs.declared.raw.RawRequest.{RawRequest}
+use Rattle.rest_stream.specs.declared.raw.Stop.{Stop}
+use Rattle.rest_stream.specs.declared.raw.Stop.TheVariants as stop
+use Rattle.rest_replies.specs.Answers.{reply_of}
+use Rattle.rest_replies.specs.Refusals.{stop_refusal}
+use Rattle.rest_replies.specs.declared.told.Told.{Told}
+use Rattle.rest_replies.specs.declared.told.Told.TheVariants as told
+use Rattle.rest_session.specs.Calls.{IsCalled}
+use Rattle.rest_session.specs.declared.session.LinkEnd.{LinkEnd}
+use Rattle.rest_session.specs.declared.session.LinkEnd.TheVariants as end
+
+-- the reply that tells want of memory
+abbrev pub memory_reply : List ℕ
+memory_reply = reply_of (told.Step step.Memory)
+
+-- the reply to what is told; in its place the one that tells want of memory may stand
+abbrev pub IsReply : Told → List ℕ → Type 0
+IsReply t reply = (reply ≡ reply_of t) ⊎ (reply ≡ memory_reply)
+
+-- a request with its own entries, the copies made in it, what it is told, and the bytes of its reply
+pub record Piece : Type 0 where
+  pub raw : RawRequest
+  pub told_is : Told
+  pub made : List Entry
+  pub copies : List ChunkCopy
+  pub reply : List ℕ
+
+abbrev pub IsPiece : Rules → List Event → Piece → Type 0
+IsPiece rules seen p = IsCalled rules seen (meaning p.raw) p.told_is p.made p.copies × IsReply p.told_is p.reply
+
+-- what the pieces have, one after another
+abbrev pub in_order : {A : Type 0} → (Piece → List A) → List Piece → List A
+in_order f [] = []
+in_order f (p ∷ ps) = f p ++ in_order f ps
+
+-- the requests, as they came
+abbrev pub raws_of : List Piece → List RawRequest
+raws_of pieces = map (λ p. p.raw) pieces
+
+-- the replies, one after another
+abbrev pub replies_of : List Piece → List ℕ
+replies_of pieces = in_order (λ p. p.reply) pieces
+
+-- the own entries and copies fall into consecutive pieces, one for each request
+pub record ArePieces (rules : Rules) (seen : List Event) (pieces : List Piece) (made : List Entry) (copies : List ChunkCopy) : Type 0 where
+  pub are : AllByRecursion (IsPiece rules seen) pieces
+  pub made_is : made ≡ in_order (λ p. p.made) pieces
+  pub copies_are : copies ≡ in_order (λ p. p.copies) pieces
+
+-- these are the first requests of the stream: the last of them closes it, or others may follow
+abbrev pub Begins : List ℕ → List RawRequest → Type 0
+Begins stream raws = Requests 0 stream raws closed ⊎ Requests 0 stream raws (stopped stop.Memory)
+
+-- the reply to the reason why there is no further request, if it has one
+abbrev pub IsLast : Stop → List ℕ → Type 0
+IsLast stop.End reply = reply ≡ []
+IsLast stop.Truncated reply = reply ≡ []
+IsLast stop.ReadFault reply = reply ≡ []
+IsLast stop.Memory reply = reply ≡ []
+IsLast why reply = IsReply (told.Stopped why) reply
+
+-- how a link ends for this reason
+abbrev pub end_of : Stop → LinkEnd
+end_of stop.End = end.Ended
+end_of stop.Truncated = end.Cut
+end_of stop.ReadFault = end.ReadFault
+end_of stop.Memory = end.Memory
+end_of stop.BadHead = end.Unframed
+end_of stop.BadLength = end.Unframed
+end_of stop.HeadTooLong = end.Unframed
+end_of stop.BodyTooLong = end.Unframed
+end_of stop.NoChunked = end.Unframed
+
+-- the stream had no further request for this reason, and its reply is the last one
+pub record IsStopped (left : Option (List ℕ)) (raws : List RawRequest) (why : Stop) (reply : List ℕ) : Type 0 where
+  pub requests : IfSome left (λ stream. Requests 0 stream raws (stopped why))
+  pub reply_is : IsLast why reply
+
+-- the end of a link, by what was read of its stream and what was written: a request that closes; a write that failed within the replies,
+-- or within the last one; or the reason why the stream had no further request
+abbrev pub HasEnded : Option (List ℕ) → Option (List ℕ) → Option (List ℕ) → List RawRequest → List ℕ → LinkEnd → Type 0
+HasEnded left old new raws replies end.Closed = IfSome left (λ stream. Requests 0 stream raws closed) × (new ≡ appended old replies)
+HasEnded left old new raws replies end.WriteFault =
+    (IfSome left (λ stream. Begins stream raws) × IsPrefixOut old new replies)
+    ⊎ ((why : Stop) × (reply : List ℕ) × IsStopped left raws why reply × IsPrefixOut old new (replies ++ reply))
+HasEnded left old new raws replies e = (why : Stop) × (end_of why ≡ e) × ((reply : List ℕ) × IsStopped left raws why reply × (new ≡ appended old (replies ++ reply)))
+
+-- the pieces of a link that ended so
+pub record IsServed (left old new : Option (List ℕ)) (rules : Rules) (seen : List Event) (e : LinkEnd) (made : List Entry) (copies : List ChunkCopy) : Type 0 where
+  pub pieces : List Piece
+  pub are : ArePieces rules seen pieces made copies
+  pub ended : HasEnded left old new (raws_of pieces) (replies_of pieces) e
+
+-- the requests of a link were answered, each by its own entries, up to its end
+abbrev pub HasServed : Known → Known → Copies → Copies → Option (List ℕ) → Option (List ℕ) → Option (List ℕ) → LinkEnd → Type 0
+HasServed v w k l left old new e = HasMade (IsServed left old new v.rules w.seen e) v w k l
+
+-- a reply was written, whole or, before an error, a prefix of it
+abbrev pub IsWritten : {E : Type 0} → Option (List ℕ) → Option (List ℕ) → Result (Unit {0}) E → List ℕ → Type 0
+IsWritten old new (Ok done) reply = new ≡ appended old reply
+IsWritten old new (Err fault) reply = IsPrefixOut old new reply
+
+-- one request was answered
+pub record IsAnswered {E : Type 0} (raw : RawRequest) (old new : Option (List ℕ)) (result : Result (Unit {0}) E) (rules : Rules) (seen : List Event) (made : List Entry) (copies : List ChunkCopy) : Type 0 where
+  pub told_is : Told
+  pub reply : List ℕ
+  pub called : IsCalled rules seen (meaning raw) told_is made copies
+  pub reply_is : IsReply told_is reply
+  pub written : IsWritten old new result reply
+
+abbrev pub HasAnswered : {E : Type 0} → Known → Known → Copies → Copies → RawRequest → Option (List ℕ) → Option (List ℕ) → Result (Unit {0}) E → Type 0
+HasAnswered v w k l raw old new result = HasMade (IsAnswered raw old new result v.rules w.seen) v w k l
+
+-- pieces so far, of the first requests, whose replies are out
+pub record AreSoFar (old new : Option (List ℕ)) (raws : List RawRequest) (rules : Rules) (seen : List Event) (made : List Entry) (copies : List ChunkCopy) : Type 0 where
+  pub pieces : List Piece
+  pub are : ArePieces rules seen pieces made copies
+  pub raws_are : raws ≡ raws_of pieces
+  pub out : new ≡ appended old (replies_of pieces)
+
+abbrev pub HasSoFar : Known → Known → Copies → Copies → Option (List ℕ) → Option (List ℕ) → List RawRequest → Type 0
+HasSoFar v w k l old new raws = HasMade (AreSoFar old new raws v.rules w.seen) v w k l
+
+-- a reply to what is told was written
+abbrev pub IsReplied : {E : Type 0} → Told → Option (List ℕ) → Option (List ℕ) → Result (Unit {0}) E → Type 0
+IsReplied t old new result = (reply : List ℕ) × IsReply t reply × IsWritten old new result reply
+
+-- the reason why there is no further request was told, if it has a reply; or the write failed
+abbrev pub IsRefused : Option (List ℕ) → Option (List ℕ) → Stop → LinkEnd → Type 0
+IsRefused old new why e =
+    ((e ≡ end.WriteFault) × ((reply : List ℕ) × IsLast why reply × IsPrefixOut old new reply))
+    ⊎ ((e ≡ end_of why) × ((reply : List ℕ) × IsLast why reply × (new ≡ appended old reply)))
+
+-- so many requests were read, their replies are out, and those of what is left follow
+pub record IsServing (left old before new : Option (List ℕ)) (given : ℕ) (v w : Known) (k l : Copies) : Type 0 where
+  pub raws : List RawRequest
+  pub leads : Leads left raws given before
+  pub did : HasSoFar v w k l old new raws

@@ -1,0 +1,57 @@
+-- What a request asks of the core, and what it is told.
+use Rattle.std.specs.Prelude.{◌≡◌, ℕ, List, [], ◌∷◌, Result, Ok, Err}
+use Rattle.cluster_gate.specs.declared.copier.ChunkCopy.{ChunkCopy}
+use Rattle.core_terms.specs.declared.events.Event.{Event}
+use Rattle.core_terms.specs.declared.events.Event.TheVariants as event
+use Rattle.core_terms.specs.declared.faults.StepFault.TheVariants as step
+use Rattle.mover_rounds.specs.Asked.{Entry, HasAsked, IsUnasked, Known, Rules, reply_to}
+use Rattle.mover_rounds.specs.Made.{Copies, HasMade, IsPumped}
+use Rattle.rest_parse.specs.Calls.{UnlessMemory}
+use Rattle.rest_parse.specs.declared.calls.Call.{Call}
+use Rattle.rest_parse.specs.declared.calls.Call.TheVariants as call
+use Rattle.rest_parse.specs.declared.calls.HttpFault.{HttpFault}
+use Rattle.rest_replies.specs.declared.told.Told.{Told}
+use Rattle.rest_replies.specs.declared.told.Told.TheVariants as told
+use Rattle.rest_session.specs.declared.calls.Asked.{Asked}
+use Rattle.rest_session.specs.declared.calls.Asked.TheVariants as asked
+
+-- the event that a call is, or so many rounds
+abbrev pub asked_by : Call → Asked
+asked_by (call.Submit ask id) = asked.Once (event.Submit ask id)
+asked_by (call.Stop force) = asked.Once (event.Stop force)
+asked_by (call.Kill broker) = asked.Once (event.Kill broker)
+asked_by (call.Sample topic number time loads) = asked.Once (event.Sample topic number time loads)
+asked_by (call.Show query) = asked.Once (event.Show query)
+asked_by (call.Pump steps) = asked.Rounds steps
+asked_by (call.Caps of_broker of_cluster of_leaders) = asked.Once (event.Caps (record { broker = of_broker; cluster = of_cluster; leader = of_leaders }))
+
+-- no entry, and no copy
+abbrev pub IsNothing : List Entry → List ChunkCopy → Type 0
+IsNothing made copies = (made ≡ []) × (copies ≡ [])
+
+-- the own entries and copies of what is asked, and what it is told: one event has its one entry, and is told the reply at its place, or
+-- want of memory without an entry; a pump has its rounds
+abbrev pub IsDone : Rules → List Event → Asked → Told → List Entry → List ChunkCopy → Type 0
+IsDone rules seen (asked.Once e) (told.Core r) made copies = ((x : Entry) × (made ≡ x ∷ []) × (x.event ≡ e) × (reply_to rules x ≡ r)) × (copies ≡ [])
+IsDone rules seen (asked.Once e) (told.Step f) made copies = (f ≡ step.Memory) × IsNothing made copies
+IsDone rules seen (asked.Rounds n) (told.Pump end) made copies = IsPumped rules seen n end made copies
+IsDone rules seen _ _ made copies = ⊥
+
+-- the same of what a request means: a call; or a fault, which is told and has no entry. Where memory runs out before it is known what
+-- the request means, nothing is done
+abbrev pub IsCalled : Rules → List Event → Result Call HttpFault → Told → List Entry → List ChunkCopy → Type 0
+IsCalled rules seen meaning (told.Http fault) made copies = UnlessMemory {T = Call} (Err fault) meaning × IsNothing made copies
+IsCalled rules seen meaning t made copies = (c : Call) × (meaning ≡ Ok c) × IsDone rules seen (asked_by c) t made copies
+
+-- one event was asked: it was answered, or there was no memory for it
+abbrev pub IsAskedOnce : Known → Known → Event → Told → Type 0
+IsAskedOnce v w e (told.Core r) = HasAsked v w e r
+IsAskedOnce v w e (told.Step f) = (f ≡ step.Memory) × IsUnasked v w e f
+IsAskedOnce v w e _ = ⊥
+
+-- what a call has made, and what a request has
+abbrev pub HasDone : Known → Known → Copies → Copies → Asked → Told → Type 0
+HasDone v w k l a t = HasMade (IsDone v.rules w.seen a t) v w k l
+
+abbrev pub HasCalled : Known → Known → Copies → Copies → Result Call HttpFault → Told → Type 0
+HasCalled v w k l meaning t = HasMade (IsCalled v.rules w.seen meaning t) v w k l

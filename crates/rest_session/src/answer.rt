@@ -1,0 +1,91 @@
+// One request: what it is told, and its reply.
+ghost use Rattle.std.specs.Prelude.{◌≡◌, false};
+ghost use Rattle.cc_base.specs.Outside.{HasCause};
+ghost use Rattle.core_terms.specs.History.{is_outward};
+ghost use Rattle.mover_rounds.specs.Made.{copier_of};
+ghost use Rattle.rest_parse.specs.Calls.{IsInRange, meaning};
+ghost use Rattle.rest_session.specs.Answered.{HasAnswered, IsReplied};
+ghost use Rattle.rest_session.specs.Calls.{HasCalled, HasDone, IsAskedOnce, asked_by};
+
+use crate::calls::{Asked, asked_by};
+use cc_base::{Link, WriteFault, write_link};
+use cluster_gate::Copier;
+use core_terms::Event;
+use mover_rounds::{Asker, pump};
+use rest_parse::{Call, RawRequest, Routes};
+use rest_replies::{MEMORY_REPLY, Told, memory_reply_is_a_reply, reply_bytes};
+use std::alloc::Global;
+
+// Asks one event that calls nothing outside, so that only want of memory may stand in its way.
+fn ask_once<X: Asker>(asker: &mut X, event: Event) -> Told
+    requires { is_outward event ≡ false }
+    ensures since { X.since asker.old asker.new }
+    ensures asked { IsAskedOnce (X.known asker.old) (X.known asker.new) event result }
+{
+    match asker.ask(event) {
+        Ok(reply) => Told::Core(reply),
+        Err((fault, _)) => Told::Step(fault),
+    }
+}
+
+// Does what a call asks.
+fn do_call<X: Asker, K: Copier>(alloc: Global, asker: &mut X, copier: &mut K, call: Call) -> Told
+    requires { IsInRange call }
+    ensures since { X.since asker.old asker.new }
+    ensures done { HasDone (X.known asker.old) (X.known asker.new) (copier_of K.copies K.faults copier.old) (copier_of K.copies K.faults copier.new) (asked_by call) result }
+{
+    match asked_by(call) {
+        Asked::Once(event) => ask_once(asker, event),
+        Asked::Rounds(steps) => Told::Pump(pump(alloc, asker, copier, steps)),
+    }
+}
+
+// Does what a request means, if it means a call, and says what it is told.
+fn told_by<X: Asker, K: Copier>(
+    alloc: Global,
+    asker: &mut X,
+    copier: &mut K,
+    routes: &Routes,
+    raw: &RawRequest,
+) -> Told
+    ensures since { X.since asker.old asker.new }
+    ensures called { HasCalled (X.known asker.old) (X.known asker.new) (copier_of K.copies K.faults copier.old) (copier_of K.copies K.faults copier.new) (meaning raw.now) result }
+{
+    match routes.request_of(alloc, raw) {
+        Ok(call) => do_call(alloc, asker, copier, call),
+        Err(fault) => Told::Http(fault),
+    }
+}
+
+/// Writes the reply to what is told. Where there is no memory for it, the reply that says so takes none.
+pub fn write_reply<L: Link>(alloc: Global, link: &mut L, told: &Told) -> Result<(), WriteFault>
+    ensures replied { IsReplied told.now (L.written link.old) (L.written link.new) result }
+    ensures cause { HasCause (L.Sink.faults link.old) (L.Sink.faults link.new) result }
+    ensures left { L.left link.new ≡ L.left link.old }
+    ensures faults { L.Source.faults link.new ≡ L.Source.faults link.old }
+{
+    memory_reply_is_a_reply();
+    match reply_bytes(alloc, told) {
+        Ok(bytes) => write_link(link, &bytes),
+        Err(_) => write_link(link, MEMORY_REPLY),
+    }
+}
+
+/// Answers one request.
+pub fn answer<X: Asker, K: Copier, L: Link>(
+    alloc: Global,
+    asker: &mut X,
+    copier: &mut K,
+    routes: &Routes,
+    raw: &RawRequest,
+    link: &mut L,
+) -> Result<(), WriteFault>
+    ensures since { X.since asker.old asker.new }
+    ensures answered { HasAnswered (X.known asker.old) (X.known asker.new) (copier_of K.copies K.faults copier.old) (copier_of K.copies K.faults copier.new) raw.now (L.written link.old) (L.written link.new) result }
+    ensures cause { HasCause (L.Sink.faults link.old) (L.Sink.faults link.new) result }
+    ensures left { L.left link.new ≡ L.left link.old }
+    ensures faults { L.Source.faults link.new ≡ L.Source.faults link.old }
+{
+    let told = told_by(alloc, asker, copier, routes, raw);
+    write_reply(alloc, link, &told)
+}

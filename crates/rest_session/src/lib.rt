@@ -1,0 +1,9 @@
+//! A session: the requests of a link, read one after another, each answered by the reply to its own entries.
+#![tactic(auto)]
+
+mod answer;
+mod calls;
+mod session;
+
+pub use calls::{Asked, asked_by};
+pub use session::{LinkEnd, serve};

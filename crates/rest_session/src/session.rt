@@ -1,0 +1,118 @@
+// The loop of a session.
+ghost use Rattle.std.specs.Prelude.{◌≡◌, ◌≤◌, IsNone, [], None};
+ghost use Rattle.cc_base.specs.Outside.{HasRisen};
+ghost use Rattle.mover_rounds.specs.Made.{copier_of};
+ghost use Rattle.rest_session.specs.Answered.{HasServed, IsRefused, end_of};
+
+use crate::answer::{answer, write_reply};
+use cc_base::Link;
+use cluster_gate::Copier;
+use mover_rounds::Asker;
+use rest_parse::{Reader, Routes, Stop};
+use rest_replies::Told;
+use std::alloc::Global;
+
+/// How a link ended.
+#[derive(Clone, Copy, Debug, PartialEq, Eq)]
+pub enum LinkEnd {
+    /// The input ended between requests.
+    Ended,
+    /// A request closed the link.
+    Closed,
+    /// The input ended inside a request.
+    Cut,
+    /// A request couldn't be framed, and was told why.
+    Unframed,
+    /// A read failed.
+    ReadFault,
+    /// A write failed.
+    WriteFault,
+    /// Out of memory, before a further request was read.
+    Memory,
+}
+
+// How a link ends for a reason that has no reply, or whose reply is out.
+fn end_of(why: Stop) -> LinkEnd
+    ensures { result ≡ end_of why }
+{
+    match why {
+        Stop::End => LinkEnd::Ended,
+        Stop::Truncated => LinkEnd::Cut,
+        Stop::ReadFault => LinkEnd::ReadFault,
+        Stop::Memory => LinkEnd::Memory,
+        Stop::BadHead | Stop::BadLength | Stop::HeadTooLong | Stop::BodyTooLong | Stop::NoChunked =>
+            LinkEnd::Unframed,
+    }
+}
+
+// Tells the reason why there is no further request, if it has a reply.
+fn refuse<L: Link>(alloc: Global, link: &mut L, why: Stop) -> LinkEnd
+    ensures refused { IsRefused (L.written link.old) (L.written link.new) why result }
+    ensures later { L.Sink.faults link.old ≤ L.Sink.faults link.new }
+    ensures cause { result ≡ LinkEnd.WriteFault → HasRisen (L.Sink.faults link.old) (L.Sink.faults link.new) }
+    ensures left { L.left link.new ≡ L.left link.old }
+    ensures faults { L.Source.faults link.new ≡ L.Source.faults link.old }
+{
+    match why {
+        Stop::End | Stop::Truncated | Stop::ReadFault | Stop::Memory => end_of(why),
+        _ => match write_reply(alloc, link, &Told::Stopped(why)) {
+            Ok(()) => end_of(why),
+            Err(_) => LinkEnd::WriteFault,
+        },
+    }
+}
+
+// Answers requests until the link ends.
+fn serve_with<X: Asker, K: Copier, L: Link>(
+    alloc: Global,
+    asker: &mut X,
+    copier: &mut K,
+    routes: &Routes,
+    mut reader: Reader,
+    link: &mut L,
+) -> LinkEnd
+    requires { reader ≡ record { held = []; given = 0; ended = None } }
+    ensures since { X.since asker.old asker.new }
+    ensures served { HasServed (X.known asker.old) (X.known asker.new) (copier_of K.copies K.faults copier.old) (copier_of K.copies K.faults copier.new) (L.left link.old) (L.written link.old) (L.written link.new) result }
+    ensures source { L.Source.faults link.old ≤ L.Source.faults link.new }
+    ensures sink { L.Sink.faults link.old ≤ L.Sink.faults link.new }
+    ensures read_fault { result ≡ LinkEnd.ReadFault → HasRisen (L.Source.faults link.old) (L.Source.faults link.new) }
+    ensures write_fault { result ≡ LinkEnd.WriteFault → HasRisen (L.Sink.faults link.old) (L.Sink.faults link.new) }
+{
+    loop {
+        match reader.next(alloc, link).into_result() {
+            Ok(raw) => {
+                if answer(alloc, asker, copier, routes, &raw, link).is_err() {
+                    return LinkEnd::WriteFault;
+                }
+                if raw.closes {
+                    return LinkEnd::Closed;
+                }
+            }
+            Err(why) => return refuse(alloc, link, why),
+        }
+    }
+}
+
+/// Answers the requests of a link in their order, each by the reply to its own entries, until the link ends.
+pub fn serve<X: Asker, K: Copier, L: Link>(
+    alloc: Global,
+    asker: &mut X,
+    copier: &mut K,
+    link: &mut L,
+) -> LinkEnd
+    ensures since { X.since asker.old asker.new }
+    ensures served { HasServed (X.known asker.old) (X.known asker.new) (copier_of K.copies K.faults copier.old) (copier_of K.copies K.faults copier.new) (L.left link.old) (L.written link.old) (L.written link.new) result }
+    ensures source { L.Source.faults link.old ≤ L.Source.faults link.new }
+    ensures sink { L.Sink.faults link.old ≤ L.Sink.faults link.new }
+    ensures read_fault { result ≡ LinkEnd.ReadFault → HasRisen (L.Source.faults link.old) (L.Source.faults link.new) }
+    ensures write_fault { result ≡ LinkEnd.WriteFault → HasRisen (L.Sink.faults link.old) (L.Sink.faults link.new) }
+{
+    let Ok(routes) = Routes::new(alloc) else {
+        return LinkEnd::Memory;
+    };
+    let Ok(reader) = Reader::new(alloc) else {
+        return LinkEnd::Memory;
+    };
+    serve_with(alloc, asker, copier, &routes, reader, link)
+}
