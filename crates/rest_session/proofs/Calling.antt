@@ -1,12 +1,11 @@
 -- What a request's call has made.
-use Rattle.std.proofs.Common.{◌≡◌, ℕ, ◌+◌, true, false, List, [], ◌∷◌, ◌++◌, Ok, Err, refl, ap, sym, ◌∙◌, subst, append-nil, arith}
+use Rattle.std.proofs.Common.{◌≡◌, ℕ, ◌+◌, false, List, [], ◌∷◌, ◌++◌, Ok, Err, refl, ap, sym, ◌∙◌, subst, append-nil, arith}
 use Rattle.std.specs.Prelude.{Option, Some, None, IfSome, Result}
 use Rattle.core_terms.specs.Caps.{IsCap}
 use Rattle.core_terms.specs.History.{is_outward}
 use Rattle.core_terms.specs.declared.events.Event.{Event}
 use Rattle.core_terms.specs.declared.pumps.PumpEnd.{PumpEnd}
-use Rattle.core_terms.specs.declared.replies.Reply.{Reply}
-use Rattle.mover_rounds.specs.Asked.{HasAsked, Known}
+use Rattle.mover_rounds.specs.Asked.{Known}
 use Rattle.mover_rounds.specs.Made.{Copies, HasPumped, HasRisenBy, failed_in}
 use Rattle.mover_rounds.proofs.Prefixes.{prefix_self, prefix_twice}
 use Rattle.mover_rounds.proofs.Working.{no_copies, risen_none}

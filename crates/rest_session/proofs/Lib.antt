@@ -1,3 +1,5 @@
 pub mod Calling
 pub mod Refusing
 pub mod Serving
+pub mod Unclosed
+pub mod Sessions

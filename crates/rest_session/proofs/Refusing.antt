@@ -1,5 +1,5 @@
 -- Why there is no further request, and how the link ends then.
-use Rattle.std.proofs.Common.{◌≡◌, ℕ, List, [], ◌++◌, Ok, Err, refl, ap, sym, ◌∙◌, append-nil, inl, inr, ◌⊎◌}
+use Rattle.std.proofs.Common.{◌≡◌, ℕ, List, [], Ok, Err, refl, ap, sym, ◌∙◌, append-nil, inl, inr}
 use Rattle.std.specs.Prelude.{Option, Some, None, Result, OnErr, OnOk}
 use Rattle.cc_base.specs.Outside.{IsPrefixOut, appended}
 use Rattle.rest_stream.specs.declared.raw.Stop.{Stop}

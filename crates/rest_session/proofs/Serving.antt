@@ -1,5 +1,5 @@
 -- Requests, one behind another.
-use Rattle.std.proofs.Common.{◌≡◌, ℕ, ◌+◌, ◌≤◌, Bool, true, false, List, [], ◌∷◌, ◌++◌, length, take, map, Ok, Err, refl, ap, sym, ◌∙◌, subst, append_assoc, append-nil, zero-add, suc, arith, inl, inr, ◌⊎◌}
+use Rattle.std.proofs.Common.{◌≡◌, ℕ, ◌+◌, ◌≤◌, Bool, true, false, List, [], ◌∷◌, ◌++◌, length, take, Ok, Err, refl, ap, sym, ◌∙◌, subst, append_assoc, append-nil, zero-add, suc, arith, inl, inr}
 use Rattle.std.specs.Prelude.{Option, Some, None, IfSome, IsSome, OnErr, Result, is_err}
 use Rattle.std.specs.List.{AllByRecursion}
 use Rattle.std.proofs.lemmas.List.{length-append, map-append}
@@ -8,7 +8,7 @@ use Rattle.cc_base.specs.Outside.{HasRisen, IsPrefixOut, appended}
 use Rattle.cluster_gate.specs.declared.copier.ChunkCopy.{ChunkCopy}
 use Rattle.core_terms.specs.declared.events.Event.{Event}
 use Rattle.mover_rounds.specs.Asked.{Entry, Known, Rules}
-use Rattle.mover_rounds.specs.Made.{Copies, HasMade}
+use Rattle.mover_rounds.specs.Made.{Copies}
 use Rattle.mover_rounds.proofs.Later.{pumped_later}
 use Rattle.mover_rounds.proofs.Prefixes.{prefix_self}
 use Rattle.mover_rounds.proofs.Pumping.{made_both}
@@ -25,7 +25,7 @@ use Rattle.rest_stream.proofs.Leading.{leads_closed, leads_end, leads_on}
 use Rattle.rest_replies.specs.declared.told.Told.{Told}
 use Rattle.rest_replies.specs.declared.told.Told.TheVariants as told
 use Rattle.rest_session.specs.Calls.{IsCalled, IsDone, asked_by}
-use Rattle.rest_session.specs.Answered.{ArePieces, AreSoFar, Begins, HasAnswered, HasEnded, HasServed, HasSoFar, IsAnswered, IsLast, IsPiece, IsRefused, IsServed, IsServing, IsStopped, Piece, end_of, in_order, raws_of, replies_of}
+use Rattle.rest_session.specs.Answered.{ArePieces, AreSoFar, Begins, HasAnswered, HasEnded, HasServed, HasSoFar, IsAnswered, IsPiece, IsRefused, IsServed, IsServing, IsStopped, Piece, end_of, in_order, raws_of, replies_of}
 use Rattle.rest_session.specs.declared.calls.Asked.{Asked}
 use Rattle.rest_session.specs.declared.calls.Asked.TheVariants as asked
 use Rattle.rest_session.specs.declared.session.LinkEnd.{LinkEnd}

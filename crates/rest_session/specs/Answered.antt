@@ -1,7 +1,7 @@
 -- The requests of a link, their own entries and their replies.
-use Rattle.std.specs.Prelude.{◌≡◌, ⊤, ℕ, List, [], ◌∷◌, ◌++◌, ◌⊎◌, map, Option, Some, None, IfSome, Result, Ok, Err}
+use Rattle.std.specs.Prelude.{◌≡◌, ℕ, List, [], ◌∷◌, ◌++◌, ◌⊎◌, map, Option, IfSome, Result, Ok, Err}
 use Rattle.std.specs.List.{AllByRecursion}
-use Rattle.cc_base.specs.Outside.{HasRisen, IsPrefixOut, appended}
+use Rattle.cc_base.specs.Outside.{IsPrefixOut, appended}
 use Rattle.cluster_gate.specs.declared.copier.ChunkCopy.{ChunkCopy}
 use Rattle.core_terms.specs.declared.events.Event.{Event}
 use Rattle.core_terms.specs.declared.faults.StepFault.TheVariants as step
@@ -14,7 +14,6 @@ use Rattle.rest_stream.specs.declared.raw.RawRequest.{RawRequest}
 use Rattle.rest_stream.specs.declared.raw.Stop.{Stop}
 use Rattle.rest_stream.specs.declared.raw.Stop.TheVariants as stop
 use Rattle.rest_replies.specs.Answers.{reply_of}
-use Rattle.rest_replies.specs.Refusals.{stop_refusal}
 use Rattle.rest_replies.specs.declared.told.Told.{Told}
 use Rattle.rest_replies.specs.declared.told.Told.TheVariants as told
 use Rattle.rest_session.specs.Calls.{IsCalled}

@@ -4,6 +4,8 @@
 mod answer;
 mod calls;
 mod session;
+mod whole;
 
 pub use calls::{Asked, asked_by};
 pub use session::{LinkEnd, serve};
+pub use whole::{SessionEnd, run_session};

@@ -1,4 +1,4 @@
-use Rattle.std.proofs.Common.{◌≡◌, ◌<◌, ◌≤◌, ◌-◌, ◌^◌}
+use Rattle.std.proofs.Common.{◌<◌, ◌≤◌, ◌-◌, ◌^◌}
 use Rattle.std.specs.Prelude.{IsNone}
 use Rattle.mover_rounds.specs.Made.{copier_of}
 use Rattle.rest_stream.specs.Stream.{stream_of}

@@ -1,0 +1,78 @@
+// A session over a book of its own.
+ghost use Rattle.std.specs.Prelude.{◌≡◌, ◌≤◌, ◌++◌, ◌∷◌, [], false};
+ghost use Rattle.std.specs.List.{list_any};
+ghost use Rattle.cc_base.specs.Outside.{HasRisen};
+ghost use Rattle.control_core.specs.Books.{state_of};
+ghost use Rattle.core_laws.specs.Alone.{IsDone};
+ghost use Rattle.core_laws.specs.Events.{is_close};
+ghost use Rattle.mover_rounds.specs.Exact.{HasDrainedAlone};
+ghost use Rattle.mover_rounds.specs.Made.{copier_of};
+ghost use Rattle.mover_rounds.specs.Owned.{IsSince, known_by_owner};
+ghost use Rattle.rest_session.specs.Sessions.{IsSession};
+
+use crate::session::{LinkEnd, serve};
+use cc_base::Link;
+use cluster_gate::{Admin, Copier};
+use control_core::Book;
+use core_laws::every_history;
+use core_terms::Event;
+use mover_rounds::{DrainEnd, drain};
+use std::alloc::Global;
+
+/// How a session ended.
+#[derive(Clone, Copy, Debug, PartialEq, Eq)]
+pub struct SessionEnd {
+    /// How its link ended.
+    pub link: LinkEnd,
+    /// How the drain behind it ended.
+    pub drain: DrainEnd,
+}
+
+// Asks the first Close, for which there is always memory.
+fn close<A: Admin>(book: &mut Book<A>)
+    requires { list_any is_close book.old.journal ≡ false }
+    ensures since { IsSince A.faults book.old book.new }
+    ensures journal { book.new.journal ≡ book.old.journal ++ Event.Close ∷ [] }
+{
+    every_history();
+    match book.step(Event::Close) {
+        Ok(_) => {}
+        Err(_) => unreachable!(),
+    }
+}
+
+// Makes rounds until no task and no job is unfinished. A book with a lease or a ticket out is left as it is, as one without memory.
+fn finish<A: Admin, K: Copier>(alloc: Global, book: &mut Book<A>, copier: &mut K) -> DrainEnd
+    ensures since { IsSince A.faults book.old book.new }
+    ensures rounds { HasDrainedAlone (known_by_owner book.old) (known_by_owner book.new) (copier_of K.copies K.faults copier.old) (copier_of K.copies K.faults copier.new) result }
+    ensures drained { result ≡ DrainEnd.Drained → IsDone (state_of book.new).desk }
+{
+    if book.is_quiet() {
+        drain(alloc, book, copier)
+    } else {
+        DrainEnd::Memory
+    }
+}
+
+/// Answers the requests of a link over a book that was just opened, then asks Close, then makes rounds until no task and no job is
+/// unfinished.
+pub fn run_session<A: Admin, K: Copier, L: Link>(
+    alloc: Global,
+    book: &mut Book<A>,
+    copier: &mut K,
+    link: &mut L,
+) -> SessionEnd
+    requires { book.old.journal ≡ [] }
+    ensures since { IsSince A.faults book.old book.new }
+    ensures session { IsSession book.old book.new (copier_of K.copies K.faults copier.old) (copier_of K.copies K.faults copier.new) (L.left link.old) (L.written link.old) (L.written link.new) result }
+    ensures drained { result.drain ≡ DrainEnd.Drained → IsDone (state_of book.new).desk }
+    ensures source { L.Source.faults link.old ≤ L.Source.faults link.new }
+    ensures sink { L.Sink.faults link.old ≤ L.Sink.faults link.new }
+    ensures read_fault { result.link ≡ LinkEnd.ReadFault → HasRisen (L.Source.faults link.old) (L.Source.faults link.new) }
+    ensures write_fault { result.link ≡ LinkEnd.WriteFault → HasRisen (L.Sink.faults link.old) (L.Sink.faults link.new) }
+{
+    let ended = serve(alloc, book, copier, link);
+    close(book);
+    let drain = finish(alloc, book, copier);
+    SessionEnd { link: ended, drain }
+}
