@@ -1,10 +1,11 @@
 // A session over a book of its own.
-ghost use Rattle.std.specs.Prelude.{◌≡◌, ◌≤◌, ◌++◌, ◌∷◌, [], false};
+ghost use Rattle.std.specs.Prelude.{◌≡◌, ◌≤◌, ◌++◌, ◌∷◌, [], false, ℕ};
 ghost use Rattle.std.specs.List.{list_any};
 ghost use Rattle.cc_base.specs.Outside.{HasRisen};
 ghost use Rattle.control_core.specs.Books.{state_of};
 ghost use Rattle.core_laws.specs.Alone.{IsDone};
 ghost use Rattle.core_laws.specs.Events.{is_close};
+ghost use Rattle.mover_rounds.specs.Drained.{IsDrainCause};
 ghost use Rattle.mover_rounds.specs.Exact.{HasDrainedAlone};
 ghost use Rattle.mover_rounds.specs.Made.{copier_of};
 ghost use Rattle.mover_rounds.specs.Owned.{IsSince, known_by_owner};
@@ -46,6 +47,7 @@ fn finish<A: Admin, K: Copier>(alloc: Global, book: &mut Book<A>, copier: &mut K
     ensures since { IsSince A.faults book.old book.new }
     ensures rounds { HasDrainedAlone (known_by_owner book.old) (known_by_owner book.new) (copier_of K.copies K.faults copier.old) (copier_of K.copies K.faults copier.new) result }
     ensures drained { result ≡ DrainEnd.Drained → IsDone (state_of book.new).desk }
+    ensures cause { IsDrainCause (known_by_owner book.old) (known_by_owner book.new) result }
 {
     if book.is_quiet() {
         drain(alloc, book, copier)
@@ -66,6 +68,7 @@ pub fn run_session<A: Admin, K: Copier, L: Link>(
     ensures since { IsSince A.faults book.old book.new }
     ensures session { IsSession book.old book.new (copier_of K.copies K.faults copier.old) (copier_of K.copies K.faults copier.new) (L.left link.old) (L.written link.old) (L.written link.new) result }
     ensures drained { result.drain ≡ DrainEnd.Drained → IsDone (state_of book.new).desk }
+    ensures fault { (number : ℕ) → result.drain ≡ DrainEnd.AdminFault number → 1 ≤ book.new.failures }
     ensures source { L.Source.faults link.old ≤ L.Source.faults link.new }
     ensures sink { L.Sink.faults link.old ≤ L.Sink.faults link.new }
     ensures read_fault { result.link ≡ LinkEnd.ReadFault → HasRisen (L.Source.faults link.old) (L.Source.faults link.new) }
