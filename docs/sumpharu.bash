@@ -1,25 +1,28 @@
 # Completion of sumpharu's arguments for bash: source this file. tools/make-manual writes it of docs/help.txt.
 _sumpharu() {
-    local word=${COMP_WORDS[COMP_CWORD]} wanted
-    local -A after=(
-        [plan]='FILE --goals RackAwareGoal --skip-hard-goal-check'
-        [apply]='FILE --goals RackAwareGoal --skip-hard-goal-check'
-        [check]='FILE TRACE --goals RackAwareGoal --skip-hard-goal-check'
+    local word=${COMP_WORDS[COMP_CWORD]}
+    local -A options=(
+        [plan]='--goals --skip-hard-goal-check --excluded-topics --trace'
+        [apply]='--goals --skip-hard-goal-check --excluded-topics'
+        [check]='--goals --skip-hard-goal-check --excluded-topics'
     )
     if [ "$COMP_CWORD" -eq 1 ]; then
         COMPREPLY=($(compgen -W "plan apply check help --help --version" -- "$word"))
         return
     fi
     if [ "${COMP_WORDS[1]}" = help ]; then
-        [ "$COMP_CWORD" -ne 2 ] || COMPREPLY=($(compgen -W "${!after[*]}" -- "$word"))
+        [ "$COMP_CWORD" -ne 2 ] || COMPREPLY=($(compgen -W "${!options[*]}" -- "$word"))
         return
     fi
-    read -ra wanted <<<"${after[${COMP_WORDS[1]:-none}]}"
-    wanted=${wanted[COMP_CWORD - 2]}
-    case $wanted in
-    '') COMPREPLY=() ;;
-    FILE | TRACE) mapfile -t COMPREPLY < <(compgen -f -- "$word") ;;
-    *) COMPREPLY=($(compgen -W "$wanted" -- "$word")) ;;
+    case ${COMP_WORDS[COMP_CWORD - 1]} in
+    --excluded-topics | --goals)
+        COMPREPLY=()
+        return
+        ;;
+    esac
+    case $word in
+    -*) COMPREPLY=($(compgen -W "${options[${COMP_WORDS[1]:-none}]}" -- "$word")) ;;
+    *) mapfile -t COMPREPLY < <(compgen -f -- "$word") ;;
     esac
 }
 complete -o filenames -F _sumpharu sumpharu ./sumpharu

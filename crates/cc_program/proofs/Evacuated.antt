@@ -1,5 +1,5 @@
 -- What a plan whose first goal is evacuation leaves.
-use Rattle.std.proofs.Common.{◌≡◌, ◌∙◌, ℕ, ◌+◌, ◌<◌, ◌≤◌, zero, suc, Bool, true, false, cond, ◌||◌, List, [], ◌∷◌, ◌++◌, length, get_or, refl, arith, sym}
+use Rattle.std.proofs.Common.{◌≡◌, ◌∙◌, ℕ, ◌+◌, ◌<◌, ◌≤◌, suc, Bool, true, false, cond, ◌||◌, List, [], ◌∷◌, ◌++◌, length, refl, arith, sym}
 use Rattle.std.proofs.lemmas.List.{get_or_default}
 use Rattle.std.proofs.lemmas.List.Sums.{sum_by-cons}
 use Rattle.std.specs.List.{All, count_by, list_any}
@@ -13,7 +13,7 @@ use Rattle.plan_terms.specs.declared.actions.Action.{Action}
 use Rattle.goal_set.specs.Kept.{PlanView}
 use Rattle.goal_set.specs.declared.kinds.GoalKind.{GoalKind}
 use Rattle.goal_optimizer.specs.Outcomes.{IsPlanOf}
-use Rattle.cc_program.specs.Goals.{BeginsWithEvacuation}
+use Rattle.cc_program.specs.Applied.{BeginsWithEvacuation}
 use Rattle.plan_terms.proofs.GoalLemmas.{sum_below-le}
 use Rattle.plan_terms.proofs.Runs.{excess-Steps, length-after_all, length-after_turns}
 

@@ -1,4 +1,4 @@
-pub mod Ends
+pub mod Ending
 pub mod Evacuated
 pub mod Made
 pub mod Traces

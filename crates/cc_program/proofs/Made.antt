@@ -1,67 +1,74 @@
 -- What the commands make of a plan, a failure and a trace.
-use Rattle.std.proofs.Common.{◌≡◌, inl, inr, ℕ, List, refl, sym, ◌∙◌}
-use Rattle.std.specs.Prelude.{Option, Some, None, Result, Ok, Err, IfOk, IfSome}
-use Rattle.goal_set.specs.Kept.{PlanView, FailureView}
+use Rattle.std.proofs.Common.{◌≡◌, inl, inr, ℕ, List, [], ◌∷◌, false, Bool, refl}
+use Rattle.std.specs.Prelude.{Option, Some, None, Result, Ok, Err, IfOk, IfSome, if◌then◌else◌}
+use Rattle.core_terms.specs.Asked.{asks_demotion, goals_of}
+use Rattle.goal_set.specs.Kept.{FailureView, PlanView}
 use Rattle.goal_set.specs.declared.kinds.GoalKind.{GoalKind}
-use Rattle.goal_optimizer.specs.Outcomes.{IsPlanOf, IsFailureOf}
-use Rattle.cc_program.specs.Answers.{IsGoodText, IsNoTraceText, IsFaultyText, IsFaultText}
+use Rattle.goal_set.specs.declared.kinds.GoalKind.TheVariants.{Demotion, Evacuation}
+use Rattle.goal_set.specs.Read.{read_kinds}
+use Rattle.goal_optimizer.specs.Outcomes.{IsFailureOf, IsPlanOf}
+use Rattle.user_tasks.specs.declared.ask.Ask.{Ask}
+use Rattle.user_tasks.specs.declared.ask.Op.{Op}
+use Rattle.user_tasks.specs.declared.ask.Op.TheVariants as op
+use Rattle.cc_program.specs.Applied.{BeginsWithEvacuation, IsApplied, IsCarriedOut}
+use Rattle.cc_program.specs.Checked.{IsChecked}
 use Rattle.cc_program.specs.Input.{ClusterLists}
-use Rattle.cc_program.specs.Runs.{IsApplied, IsApplyMade, IsCheckMade, IsFailed, IsPlanMade}
+use Rattle.cc_program.specs.Planned.{IsFailed, IsPlanned}
 use Rattle.cc_program.specs.declared.answers.Answer.{Answer}
-use Rattle.cc_program.specs.declared.answers.Answer.TheVariants as answer
+use Rattle.cc_program.specs.declared.ends.End.{End}
+use Rattle.cc_program.specs.declared.ends.End.TheVariants as end
+
+-- every list of goals of a request begins with evacuation
+names_begin : (names : List (List ℕ)) → BeginsWithEvacuation (read_kinds names)
+names_begin [] = (_, refl)
+names_begin (n ∷ ns) = (_, refl)
+
+pub begins : (ask : Ask) → BeginsWithEvacuation (goals_of ask)
+begins ask = by_op ask.op where
+  by_op : (o : Op) → BeginsWithEvacuation (if asks_demotion o then Evacuation ∷ Demotion ∷ [] else read_kinds ask.goals)
+  by_op op.Proposals = names_begin ask.goals
+  by_op op.Rebalance = names_begin ask.goals
+  by_op op.AddBroker = names_begin ask.goals
+  by_op op.RemoveBroker = names_begin ask.goals
+  by_op op.DemoteBroker = (_, refl)
 
 module _ (file : ClusterLists) (goals : List GoalKind) where
-  module _ (plan : PlanView) (planned : IsPlanOf file.cluster file.lists goals plan) where
-    applied_one : (a : Answer) → IsApplied file.cluster file.caps file.lists plan.end a → IsApplyMade file goals a
-    applied_one (answer.Planned text) h = absurd h
-    applied_one (answer.Failed line text) h = absurd h
-    applied_one (answer.Good text) h = absurd h
-    applied_one (answer.Faulty text) h = absurd h
-    applied_one (answer.Applied exec text) h = (
-      h.0,
-      h.1,
-      h.2,
-      h.3,
-      h.5,
-      record { plan = plan; planned = planned; spelled = rw h.4 at h.5 },
-    )
+  module _ (failure : FailureView) (is : IsFailureOf file.cluster file.lists goals failure) where
+    failed_one : (trace : Bool) (text : List ℕ) (e : End) → IsFailed trace failure text e → IsPlanned trace file goals text e
+    failed_one trace text (end.GoalFailed line) h = record { failure = failure; failed = is; told = h }
+    failed_one trace text _ h = absurd h
 
-    pub applied : {E : Type 0} (r : Result Answer E) → IfOk r (IsApplied file.cluster file.caps file.lists plan.end) → IfOk r (IsApplyMade file goals)
-    applied (Ok a) h = applied_one a h
+    pub failed : {E : Type 0} (trace : Bool) (r : Result Answer E) → IfOk r (λ a. IsFailed trace failure a.text.items a.end) → IfOk r (λ a. IsPlanned trace file goals a.text.items a.end)
+    failed trace (Ok a) h = failed_one trace a.text.items a.end h
+    failed trace (Err e) h = h
+
+    failed_apply_one : (text : List ℕ) (e : End) → IsFailed false failure text e → IsApplied file goals text e
+    failed_apply_one text (end.GoalFailed line) h = record { failure = failure; failed = is; told = h }
+    failed_apply_one text _ h = absurd h
+
+    pub failed_apply : {E : Type 0} (r : Result Answer E) → IfOk r (λ a. IsFailed false failure a.text.items a.end) → IfOk r (λ a. IsApplied file goals a.text.items a.end)
+    failed_apply (Ok a) h = failed_apply_one a.text.items a.end h
+    failed_apply (Err e) h = h
+
+  module _ (plan : PlanView) (is : IsPlanOf file.cluster file.lists goals plan) where
+    applied_one : (text : List ℕ) (e : End) → IsCarriedOut file plan.end text e → IsApplied file goals text e
+    applied_one text end.Done h = record { plan = plan; planned = is; executed = h }
+    applied_one text _ h = absurd h
+
+    pub applied : {E : Type 0} (r : Result Answer E) → IfOk r (λ a. IsCarriedOut file plan.end a.text.items a.end) → IfOk r (λ a. IsApplied file goals a.text.items a.end)
+    applied (Ok a) h = applied_one a.text.items a.end h
     applied (Err e) h = h
 
-  module _ (failure : FailureView) (is : IsFailureOf file.cluster file.lists goals failure) where
-    failed_plan_one : (a : Answer) → IsFailed failure a → IsPlanMade file goals a
-    failed_plan_one (answer.Planned text) h = absurd h
-    failed_plan_one (answer.Applied exec text) h = absurd h
-    failed_plan_one (answer.Good text) h = absurd h
-    failed_plan_one (answer.Faulty text) h = absurd h
-    failed_plan_one (answer.Failed line text) h = (h.0, record { failure = failure; failed = is; met = h.1; last = h.2; spelled = h.3 }, h.4)
-
-    pub failed_plan : {E : Type 0} (r : Result Answer E) → IfOk r (IsFailed failure) → IfOk r (IsPlanMade file goals)
-    failed_plan (Ok a) h = failed_plan_one a h
-    failed_plan (Err e) h = h
-
-    failed_changes_one : (a : Answer) → IsFailed failure a → IsApplyMade file goals a
-    failed_changes_one (answer.Planned text) h = absurd h
-    failed_changes_one (answer.Applied exec text) h = absurd h
-    failed_changes_one (answer.Good text) h = absurd h
-    failed_changes_one (answer.Faulty text) h = absurd h
-    failed_changes_one (answer.Failed line text) h = (h.0, record { failure = failure; failed = is; met = h.1; last = h.2; spelled = h.3 }, h.4)
-
-    pub failed_changes : {E : Type 0} (r : Result Answer E) → IfOk r (IsFailed failure) → IfOk r (IsApplyMade file goals)
-    failed_changes (Ok a) h = failed_changes_one a h
-    failed_changes (Err e) h = h
-
   -- what holds of the bytes that were loaded holds of those that are told
-  pub check_told : (told : Option (List ℕ)) (bytes : List ℕ) (a : Answer) → IfSome told (λ t. bytes ≡ t) → IsCheckMade (Some bytes) file goals a → IsCheckMade told file goals a
-  check_told told bytes (answer.Planned text) same h = absurd h
-  check_told told bytes (answer.Applied exec text) same h = absurd h
-  check_told told bytes (answer.Failed line text) same h = absurd h
-  check_told None bytes (answer.Good text) same h = record { good = tt; spelled = h.spelled }
-  check_told (Some t) bytes (answer.Good text) same h = rw same at h
-  check_told None bytes (answer.Faulty text) same h = record {
+  check_told_one : (told : Option (List ℕ)) (bytes text : List ℕ) (e : End) → IfSome told (λ t. bytes ≡ t) → IsChecked (Some bytes) file goals text e → IsChecked told file goals text e
+  check_told_one None bytes text end.Done same h = record { good = tt; spelled = h.spelled }
+  check_told_one (Some t) bytes text end.Done same h = rw same at h
+  check_told_one None bytes text end.TraceRefused same h = record {
     bad = tt;
     why = elim h.why [ inl none ↦ inl (record { none = tt; spelled = none.spelled }) | inr some ↦ inr (record { turn = some.turn; action = some.action; kind = some.kind; faulty = tt; spelled = some.spelled }) ];
   }
-  check_told (Some t) bytes (answer.Faulty text) same h = rw same at h
+  check_told_one (Some t) bytes text end.TraceRefused same h = rw same at h
+  check_told_one told bytes text _ same h = absurd h
+
+  pub check_told : (told : Option (List ℕ)) (bytes : List ℕ) (a : Answer) → IfSome told (λ t. bytes ≡ t) → IsChecked (Some bytes) file goals a.text.items a.end → IsChecked told file goals a.text.items a.end
+  check_told told bytes a same h = check_told_one told bytes a.text.items a.end same h

@@ -1,12 +1,12 @@
 -- Two traces that tell the same are both good or neither.
-use Rattle.std.proofs.Common.{◌≡◌, ◌⊎◌, inl, inr, ℕ, List, ap, sym, ◌∙◌}
+use Rattle.std.proofs.Common.{◌≡◌, inl, inr, ℕ, List, ap, sym, ◌∙◌}
 use Rattle.std.specs.Prelude.{Option, Some, unwrap_or}
 use Rattle.goal_set.specs.declared.kinds.GoalKind.{GoalKind}
 use Rattle.goal_set.specs.declared.trace.Trace.{Trace}
 use Rattle.plan_check.specs.Judged.{IsGood}
 use Rattle.plan_check.specs.Meaning.{trace_of}
 use Rattle.plan_check.specs.Text.{TraceView, trace_view}
-use Rattle.cc_program.specs.Answers.{checked, IsGoodTrace}
+use Rattle.cc_program.specs.Checked.{IsGoodTrace, checked}
 use Rattle.cc_program.specs.Input.{ClusterLists}
 
 module _ (file : ClusterLists) (goals : List GoalKind) where

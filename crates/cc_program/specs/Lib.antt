@@ -1,7 +1,9 @@
-pub mod Answers
-pub mod Goals
+pub mod Applied
+pub mod Checked
+pub mod Commands
+pub mod Edges
+pub mod Ends
 pub mod Input
-pub mod Quiet
+pub mod Planned
 pub mod Runs
-pub mod Views
-pub mod Words
+pub mod Sessions

@@ -1,16 +1,17 @@
 // What the program plans for: a file's cluster, lists and caps.
 ghost use Rattle.std.specs.Prelude.{◌≡◌, IfOk, IfSome};
 ghost use Rattle.plan_terms.specs.Belongs.{Belongs};
-ghost use Rattle.cluster_json.specs.Ranges.{AreCaps};
-ghost use Rattle.cluster_json.specs.Reading.{Gives, fault_of};
-ghost use Rattle.cc_program.specs.Input.{input_of};
-ghost use Rattle.cc_program.specs.Quiet.{refusal_line};
-ghost use Rattle.cc_program.specs.Views.{cluster_lists};
+ghost use Rattle.cluster_json.specs.Ranges.{AreCaps, IsFile};
+ghost use Rattle.cluster_json.specs.Reading.{fault_of};
+ghost use Rattle.cluster_json.specs.Views.{file_seen};
+ghost use Rattle.cc_program.specs.Ends.{refusal_line};
+ghost use Rattle.cc_program.specs.Input.{cluster_lists, planned_for};
 
-use cluster_json::{Caps, FileRefusal, read_cluster};
-use core_cases::loaded_case;
+use cluster_json::{Caps, ClusterFile, FileRefusal};
+use core_cases::{case_of, loaded_case};
 use load_model::{Assign, Case, Memory};
 use std::alloc::Global;
+use user_tasks::Ask;
 
 /// A cluster with the loads to plan for, the replica list of each of its partitions, and how many movements there may be at a
 /// time.
@@ -21,15 +22,16 @@ pub struct Loaded {
     pub caps: Caps,
 }
 
-/// What the bytes of a file give to plan for, or their first fault.
-#[tactic(auto, unfolding(crate::specs::Input::input_of, crate::specs::Input::loaded_cluster))]
-pub fn read_input(alloc: Global, bytes: &[u8]) -> Result<Loaded, FileRefusal>
-    ensures means { Gives cluster_lists result (input_of bytes.now) }
+/// What is planned for, for a request: the file's cluster with the loads of its samples, as the request sees it.
+#[tactic(auto, unfolding(crate::specs::Input::planned_for, crate::specs::Input::loaded_cluster))]
+pub fn loaded_for(alloc: Global, file: ClusterFile, ask: &Ask) -> Result<Loaded, Memory>
+    requires { IsFile file }
+    ensures value { IfOk result (λ loaded. cluster_lists loaded ≡ planned_for ask.now (file_seen file)) }
     ensures belongs { IfOk result (λ loaded. Belongs loaded.case loaded.lists) }
     ensures caps { IfOk result (λ loaded. AreCaps loaded.caps) }
 {
-    let file = read_cluster(alloc, bytes)?;
-    let case = loaded_case(alloc, &file)?;
+    let present = loaded_case(alloc, &file)?;
+    let case = case_of(alloc, ask, present)?;
     Ok(Loaded {
         case,
         lists: file.lists,

@@ -3,17 +3,23 @@
 
 ghost use Rattle.std.specs.Prelude.{◌≡◌, ◌≢◌};
 ghost use Rattle.std.specs.Process.{exit_status};
-ghost use Rattle.cc_program.specs.Runs.{IsTold, line_of, status_of};
-ghost use Rattle.cc_program.specs.declared.quiet.End.{End};
+ghost use Rattle.cc_program.specs.Ends.{IsTold, line_of, status_of};
+ghost use Rattle.cc_program.specs.declared.ends.End.{End};
 
 mod answers;
-mod goals;
+mod applies;
+mod checks;
+mod commands;
+mod ends;
 mod input;
+mod planning;
+mod plans;
 mod quiet;
-mod words;
+mod sessions;
 
-use cc_base::{Files, HostFiles, HostSink, HostSource, HostStream, Sink, Source};
-use quiet::{End, conclude, run_quiet};
+use cc_base::{Files, HostFiles, HostSink, HostSource, HostStream, Joined, Link, Sink};
+use ends::{End, conclude};
+use quiet::run_quiet;
 use std::alloc::Global;
 use std::io::ErrorKind;
 use std::process::ExitCode;
@@ -49,20 +55,19 @@ fn exit_code(status: u8) -> ExitCode
 }
 
 // Runs the words, if they can be had. The code is the status of how that ended, and the error stream has its line.
-fn run_words<R: Threads + Sync, F: Files, I: Source, O: Sink>(
+fn run_words<R: Threads + Sync, F: Files, L: Link, O: Sink>(
     rt: &R,
     alloc: Global,
     words: io::Result<Vec<String>>,
     files: &mut F,
-    input: &mut I,
-    out: &mut O,
+    console: &mut L,
     err: &mut O,
 ) -> ExitCode
     ensures { (end : End) × (exit_status result ≡ status_of end)
         × IsTold (line_of end) (O.written err.old) (O.written err.new) (O.faults err.old) (O.faults err.new) }
 {
     match words {
-        Ok(words) => exit_code(run_quiet(rt, alloc, &words, files, input, out, err)),
+        Ok(words) => exit_code(run_quiet(rt, alloc, &words, files, console, err)),
         Err(e) => exit_code(conclude(err, &end_without_words(e.kind()))),
     }
 }
@@ -70,18 +75,11 @@ fn run_words<R: Threads + Sync, F: Files, I: Source, O: Sink>(
 fn main(rt: HostRuntime) -> ExitCode {
     let words = words_of(&rt);
     let mut files = HostFiles::new(rt);
-    let mut input = HostSource::new(rt.stdin());
-    let mut out = HostSink::new(HostStream::Out(rt.stdout()));
+    let input = HostSource::new(rt.stdin());
+    let output = HostSink::new(HostStream::Out(rt.stdout()));
+    let mut console = Joined::new(input, output);
     let mut err = HostSink::new(HostStream::Err(rt.stderr()));
-    run_words(
-        &rt,
-        rt.alloc(),
-        words,
-        &mut files,
-        &mut input,
-        &mut out,
-        &mut err,
-    )
+    run_words(&rt, rt.alloc(), words, &mut files, &mut console, &mut err)
 }
 
 #[cfg(test)]

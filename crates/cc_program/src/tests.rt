@@ -2,12 +2,16 @@
 mod clusters;
 mod goals;
 mod rows;
+mod sessions;
 
-use crate::input::read_input;
 use crate::quiet::run_quiet;
-use cc_base::{Failing, FileFault, Files, MemoryFile, MemoryFiles, MemorySink, MemorySource};
-use move_actions::{Action, all_actions};
-use rows::{ROWS, Row, THREE_BROKERS, TRACES, TURNS, WITHOUT_MEMORY};
+use cc_base::{
+    Failing, FileFault, Files, Joined, MemoryFile, MemoryFiles, MemorySink, MemorySource,
+};
+use clusters::CLUSTERS;
+use goals::GOALS;
+use rows::{ROWS, Row, TRACES, TURNS, WITHOUT_MEMORY};
+use sessions::{MOVES, SESSIONS, TWO_BROKERS};
 use std::alloc::{AllocError, Global};
 use std::process::Abort;
 use std::test::Fail;
@@ -58,13 +62,44 @@ fn files_of(alloc: Global, cluster: &str, trace: &str) -> Result<MemoryFiles, Al
     Ok(MemoryFiles::new(alloc, files))
 }
 
-// A sink whose first call fails, if it is to.
-fn sink(alloc: Global, fails: bool) -> Result<Failing<MemorySink>, AllocError> {
+// An output of which the call of this number fails, if one is to.
+fn sink(alloc: Global, fails: Option<u64>) -> Result<Failing<MemorySink>, AllocError> {
     let mut calls = Vec::new(alloc);
-    if fails {
-        calls.push(0)?;
+    if let Some(number) = fails {
+        calls.push(number)?;
     }
     Ok(Failing::new(MemorySink::new(alloc), calls))
+}
+
+// An input of this text, of which the call of this number fails, if one is to.
+fn source(
+    alloc: Global,
+    text: &str,
+    fails: Option<u64>,
+) -> Result<Failing<MemorySource>, AllocError> {
+    let mut calls = Vec::new(alloc);
+    if let Some(number) = fails {
+        calls.push(number)?;
+    }
+    Ok(Failing::new(MemorySource::new(text.as_bytes().to_vec(alloc)?), calls))
+}
+
+// Runs words over these files, this input and this output, and answers the status, and what went to the output and to the error
+// stream.
+fn run<R: Threads + Sync + AllocGlobal, F: Files>(
+    rt: &R,
+    words: &str,
+    files: &mut F,
+    input: Failing<MemorySource>,
+    out: Failing<MemorySink>,
+) -> Result<(u8, Vec<u8>, Vec<u8>), AllocError> {
+    let alloc = rt.alloc();
+    let words = words_in(alloc, words)?;
+    let mut console = Joined::new(input, out);
+    let mut err = MemorySink::new(alloc);
+    let status = run_quiet(rt, alloc, &words, files, &mut console, &mut err);
+    let out = console.sink().inner().bytes().to_vec(alloc)?;
+    Ok((status, out, err.bytes().to_vec(alloc)?))
 }
 
 // Runs the words of a row over these files, and compares what comes.
@@ -73,16 +108,19 @@ fn expect<R: Threads + Sync + Abort + AllocGlobal, F: Files>(
     row: &Row,
     files: &mut F,
 ) -> Result<(), Fail> {
-    let alloc = rt.alloc();
     let (words, cluster, trace, status, text, line) = *row;
-    let words = words_in(alloc, words)?;
-    let mut input = MemorySource::new(Vec::new(alloc));
-    let mut out = sink(alloc, status == 7)?;
-    let mut err = sink(alloc, false)?;
-    let ended = run_quiet(rt, alloc, &words, files, &mut input, &mut out, &mut err);
-    assert_eq!(rt; ended, status, "{cluster} {trace}");
-    assert_eq!(rt; out.inner().bytes(), text.as_bytes());
-    assert_eq!(rt; err.inner().bytes(), line.as_bytes());
+    let alloc = rt.alloc();
+    let fails = if status == 7 { Some(0) } else { None };
+    let (ended, out, err) = run(
+        rt,
+        words,
+        files,
+        source(alloc, "", None)?,
+        sink(alloc, fails)?,
+    )?;
+    assert_eq!(rt; ended, status, "{words} {cluster} {trace}");
+    assert_eq!(rt; out.as_slice(), text.as_bytes());
+    assert_eq!(rt; err.as_slice(), line.as_bytes());
     Ok(())
 }
 
@@ -98,33 +136,88 @@ fn expect_rows<R: Threads + Sync + Abort + AllocGlobal>(rt: &R, rows: &[Row]) ->
 #[test]
 fn each_row_has_its_answer(rt: HostRuntime) -> Result<(), Fail> {
     expect_rows(&rt, &ROWS)?;
+    expect_rows(&rt, &GOALS)?;
     expect_rows(&rt, &TURNS)?;
     expect_rows(&rt, &TRACES)?;
     expect(&rt, &WITHOUT_MEMORY, &mut NoMemory)
 }
 
-// Samples of the first partition, the file's own load of the second, and none of the third.
-const SAMPLED: &str =
-    r#"{"version":1,"brokers":[{"id":0}],"partitions":[{"topic":"t","partition":0,"replicas":[0],"load":{"leader":{"DISK":3}}},{"topic":"t","partition":1,"replicas":[0],"load":{"leader":{"DISK":7}}},{"topic":"t","partition":2,"replicas":[0]}],"samples":[{"topic":"t","partition":0,"time":100,"load":{"leader":{"DISK":10}}},{"topic":"t","partition":0,"time":200,"load":{"leader":{"DISK":21}}}]}"#;
+// The trace of a plan for all goals, as `plan --trace` writes it, is good for `check`.
+fn expect_good<R: Threads + Sync + Abort + AllocGlobal>(rt: &R, cluster: &str) -> Result<(), Fail> {
+    let alloc = rt.alloc();
+    let mut files = files_of(alloc, cluster, "")?;
+    let words = "plan cluster --trace";
+    let (_, trace, _) = run(
+        rt,
+        words,
+        &mut files,
+        source(alloc, "", None)?,
+        sink(alloc, None)?,
+    )?;
+    let text = str::from_utf8(&trace).map_err(|_| Fail::from("no text"))?;
+    let mut files = files_of(alloc, cluster, text)?;
+    let words = "check cluster trace";
+    let (status, verdict, _) = run(
+        rt,
+        words,
+        &mut files,
+        source(alloc, "", None)?,
+        sink(alloc, None)?,
+    )?;
+    assert_eq!(rt; status, 0);
+    assert_eq!(rt; verdict.as_slice(), b"good\n".as_slice());
+    Ok(())
+}
 
 #[test]
-fn plans_with_the_loads_of_samples(rt: HostRuntime) -> Result<(), Fail> {
-    let loaded = read_input(rt.alloc(), SAMPLED.as_bytes())?;
-    assert_eq!(rt; loaded.case.parts().len(), 3);
-    for (part, disk) in loaded.case.parts().iter().zip([15, 7, 0]) {
-        assert_eq!(rt; part.loads.lead, [0, 0, 0, disk]);
+fn traces_of_plans_are_good(rt: HostRuntime) -> Result<(), Fail> {
+    for cluster in CLUSTERS {
+        expect_good(&rt, cluster)?;
+    }
+    Ok(())
+}
+
+// Runs a session over two brokers, of whose input or output one call fails, if it is to.
+fn session<R: Threads + Sync + AllocGlobal>(
+    rt: &R,
+    requests: &str,
+    read: Option<u64>,
+    write: Option<u64>,
+) -> Result<(u8, Vec<u8>, Vec<u8>), AllocError> {
+    let alloc = rt.alloc();
+    let mut files = files_of(alloc, TWO_BROKERS, "")?;
+    let input = source(alloc, requests, read)?;
+    run(
+        rt,
+        "session cluster --movers 0",
+        &mut files,
+        input,
+        sink(alloc, write)?,
+    )
+}
+
+#[test]
+fn sessions_are_answered(rt: HostRuntime) -> Result<(), Fail> {
+    for (requests, status, replies, line) in SESSIONS {
+        let (ended, out, err) = session(&rt, requests, None, None)?;
+        assert_eq!(rt; str::from_utf8(&out).unwrap_or("no text"), replies);
+        assert_eq!(rt; ended, status);
+        assert_eq!(rt; err.as_slice(), line.as_bytes());
     }
     Ok(())
 }
 
 #[test]
-fn lists_actions(rt: HostRuntime) -> Result<(), Fail> {
-    let loaded = read_input(rt.alloc(), THREE_BROKERS.as_bytes())?;
-    let actions = all_actions(rt.alloc(), &loaded.case, &loaded.lists)?;
-    let (part, to) = (0, 2);
-    let away = Action::Move { part, from: 0, to };
-    let other = Action::Move { part, from: 1, to };
-    let lead = Action::Lead { part, to: 1 };
-    assert_eq!(rt; actions.as_slice(), [away, other, lead].as_slice());
+fn each_read_and_each_write_may_fail(rt: HostRuntime) -> Result<(), Fail> {
+    let (_, whole, _) = session(&rt, MOVES, None, None)?;
+    for number in 0..2 {
+        let (status, _, line) = session(&rt, MOVES, Some(number), None)?;
+        assert_eq!(rt; (status, line.as_slice()), (6, b"read fault\n".as_slice()));
+    }
+    for number in 0..4 {
+        let (status, out, line) = session(&rt, MOVES, None, Some(number))?;
+        assert_eq!(rt; (status, line.as_slice()), (7, b"write fault\n".as_slice()));
+        assert!(rt; whole.starts_with(&out));
+    }
     Ok(())
 }

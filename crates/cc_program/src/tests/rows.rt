@@ -144,7 +144,7 @@ pub const ROWS: [Row; 28] = [
     (CHECK, THREE_BROKERS, "", 5, "", "file fault\n"),
     // no command, and no such file
     ("plan", THREE_BROKERS, "", 2, "", "usage error\n"),
-    ("plan cluster", THREE_BROKERS, "", 2, "", "usage error\n"),
+    ("plan cluster", NO_PARTITION, "", 0, NOTHING, ""),
     (
         "plan none --goals RackAwareGoal --skip-hard-goal-check",
         THREE_BROKERS,

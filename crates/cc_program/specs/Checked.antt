@@ -1,44 +1,15 @@
--- What is written for a cluster and a list of goals: the text of a plan, of the goal that fails, or of what a trace is.
+-- What `check` makes of the bytes of a trace: that it is good, or its first fault.
 use Rattle.std.specs.Prelude.{◌≡◌, ◌⊎◌, ℕ, List, [], ◌∷◌, ◌++◌, Option, Some, None, IfSome, codes, decimal}
-use Rattle.serde_json.specs.Data.{string, object, member, no_members}
-use Rattle.serde_json.specs.Written.{compact_text}
-use Rattle.plan_terms.specs.Change.{proposals}
-use Rattle.proposal_set.specs.Text.{reassignment_text, assignment_text}
-use Rattle.goal_set.specs.Kept.{PlanView, FailureView, kinds_of}
-use Rattle.goal_set.specs.Kinds.{name_of}
 use Rattle.goal_set.specs.declared.kinds.GoalKind.{GoalKind}
 use Rattle.goal_set.specs.declared.trace.Trace.{Trace}
-use Rattle.goal_optimizer.specs.Outcomes.{IsPlanOf, IsFailureOf}
 use Rattle.plan_check.specs.Judged.{Checked, IsGood, IsFirstFault}
 use Rattle.plan_check.specs.Meaning.{trace_of}
 use Rattle.plan_check.specs.Names.{fault_name}
 use Rattle.plan_check.specs.Text.{trace_view}
 use Rattle.plan_check.specs.declared.faults.FaultKind.{FaultKind}
 use Rattle.cc_program.specs.Input.{ClusterLists}
-
--- the JSON of a goal that failed, with its measure as a text
-unfoldable pub failure_text : List ℕ → ℕ → List ℕ
-failure_text name left = compact_text (object (member (codes "failed") (string name) (member (codes "measure") (string (decimal left)) no_members)))
-
--- the text of a plan's proposals, and a line feed
-pub record IsPlanText (file : ClusterLists) (goals : List GoalKind) (text : List ℕ) : Type 0 where
-  pub plan : PlanView
-  pub planned : IsPlanOf file.cluster file.lists goals plan
-  pub spelled : text ≡ reassignment_text file.cluster.parts (proposals file.lists plan.end) ++ 10 ∷ []
-
--- the text of all lists at the end of a plan, and a line feed
-pub record IsAppliedText (file : ClusterLists) (goals : List GoalKind) (text : List ℕ) : Type 0 where
-  pub plan : PlanView
-  pub planned : IsPlanOf file.cluster file.lists goals plan
-  pub spelled : text ≡ assignment_text file.cluster.parts plan.end ++ 10 ∷ []
-
--- the text of a failure, and a line feed: the goal of its last turn, and how far that stays broken
-pub record IsFailureText (file : ClusterLists) (goals : List GoalKind) (goal : GoalKind) (text : List ℕ) : Type 0 where
-  pub failure : FailureView
-  pub failed : IsFailureOf file.cluster file.lists goals failure
-  pub met : List GoalKind
-  pub last : kinds_of failure.trace ≡ met ++ goal ∷ []
-  pub spelled : text ≡ failure_text (name_of goal) failure.left ++ 10 ∷ []
+use Rattle.cc_program.specs.declared.ends.End.{End}
+use Rattle.cc_program.specs.declared.ends.End.TheVariants.{Done, TraceRefused}
 
 -- a trace, with what it is checked for
 abbrev pub checked : ClusterLists → List GoalKind → Trace → Checked
@@ -82,3 +53,9 @@ pub record IsFaultyText (told : Option (List ℕ)) (file : ClusterLists) (goals 
 pub record IsFaultText (told : Option (List ℕ)) (file : ClusterLists) (goals : List GoalKind) (text : List ℕ) : Type 0 where
   pub bad : IfSome told (λ bytes. IsGoodTrace file goals bytes → ⊥)
   pub why : IsNoTraceText told text ⊎ IsFaultyText told file goals text
+
+-- what checking a trace makes, and how the run ends
+abbrev pub IsChecked : Option (List ℕ) → ClusterLists → List GoalKind → List ℕ → End → Type 0
+IsChecked told file goals text Done = IsGoodText told file goals text
+IsChecked told file goals text TraceRefused = IsFaultText told file goals text
+IsChecked told file goals text _ = ⊥

@@ -1,7 +1,7 @@
 use Rattle.std.proofs.Common.{inr}
-use Rattle.cc_program.specs.Views.{cluster_lists}
+use Rattle.cc_program.specs.Input.{cluster_lists}
 use Rattle.cc_program.proofs.Traces.{bad-other}
-use Rattle.cc_program.proofs.answers.judge.Goals as goal
+use Rattle.cc_program.proofs.checks.judge.Goals as goal
 
 pub returns-in-Good : goal.returns-in-Good
 returns-in-Good c = record {
@@ -19,6 +19,6 @@ returns c =
         action = c.in-Fault.action;
         kind = c.in-Fault.kind;
         faulty = record { trace = c.in-Ok.trace; read = c.in-Ok.ensures.ok; fault = judged.0 };
-        spelled = rw c.name.ensures at c.in_ok-text-in-Fault.ensures;
+        spelled = rw c.name.ensures at c.in_ok-fault_text-in-Fault.ensures;
       });
     }

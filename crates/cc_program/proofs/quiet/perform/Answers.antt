@@ -1,0 +1,18 @@
+use Rattle.std.specs.Prelude.{string_bytes}
+use Rattle.cluster_json.specs.Views.{file_seen}
+use Rattle.cc_program.specs.Commands.{apply, plan}
+use Rattle.cc_program.specs.Edges.{edge, io_of}
+use Rattle.cc_program.proofs.Ending.{performed}
+use Rattle.cc_program.proofs.quiet.perform.Goals as goal
+
+pub returns-in-Plan-clause-performs : goal.returns-in-Plan-clause-performs
+returns-in-Plan-clause-performs g c =
+    let io = io_of g.L.Source.left g.L.Source.faults g.L.Sink.faults g.L.Sink.written c.args.console.now c.write.new.console in
+    let e = edge g.F.Files.contents g.F.Files.faults c.args.files.now c.args.files.now io in
+    rw c.in-Plan.is (performed (plan (string_bytes c.in-Plan.file) c.in-Plan.trace c.in-Plan.planning.ask) (file_seen c.args.file) e c.plan.result c.write.result c.plan.ensures c.write.ensures.written)
+
+pub returns-in-Apply-clause-performs : goal.returns-in-Apply-clause-performs
+returns-in-Apply-clause-performs g c =
+    let io = io_of g.L.Source.left g.L.Source.faults g.L.Sink.faults g.L.Sink.written c.args.console.now c.write-in-Apply.new.console in
+    let e = edge g.F.Files.contents g.F.Files.faults c.args.files.now c.args.files.now io in
+    rw c.in-Apply.is (performed (apply (string_bytes c.in-Apply.file) c.in-Apply.planning.ask) (file_seen c.args.file) e c.apply.result c.write-in-Apply.result c.apply.ensures c.write-in-Apply.ensures.written)

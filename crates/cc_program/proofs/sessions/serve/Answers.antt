@@ -1,0 +1,23 @@
+use Rattle.std.proofs.Common.{arith}
+use Rattle.std.specs.Prelude.{Some}
+use Rattle.cc_program.proofs.sessions.serve.Goals as goal
+
+pub returns-clause-did : goal.returns-clause-did
+returns-clause-did g c =
+    let s = c.run_session-ended in
+    let session = rw c.new-copier.ensures at s.ensures.session in (
+      s.result,
+      c.ended_by.ensures,
+      record {
+        before = c.args.book.now;
+        after = s.new.book;
+        copies = record { made = Some s.new.copier.copies.items; faults = 0 };
+        opening = c.requires;
+        session = session;
+        legal = c.journal-legal.ensures.legal;
+        drained = s.ensures.drained;
+        no_failure = omega (arith, session.failed);
+        read_fault = s.ensures.read_fault;
+        write_fault = s.ensures.write_fault;
+      },
+    )
