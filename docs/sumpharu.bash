@@ -5,9 +5,10 @@ _sumpharu() {
         [plan]='--goals --skip-hard-goal-check --excluded-topics --trace'
         [apply]='--goals --skip-hard-goal-check --excluded-topics'
         [check]='--goals --skip-hard-goal-check --excluded-topics'
+        [session]='--movers --planners'
     )
     if [ "$COMP_CWORD" -eq 1 ]; then
-        COMPREPLY=($(compgen -W "plan apply check help --help --version" -- "$word"))
+        COMPREPLY=($(compgen -W "plan apply check session help --help --version" -- "$word"))
         return
     fi
     if [ "${COMP_WORDS[1]}" = help ]; then
@@ -15,7 +16,7 @@ _sumpharu() {
         return
     fi
     case ${COMP_WORDS[COMP_CWORD - 1]} in
-    --excluded-topics | --goals)
+    --excluded-topics | --goals | --movers | --planners)
         COMPREPLY=()
         return
         ;;

@@ -238,7 +238,7 @@ class Script(unittest.TestCase):
             file.truncate(67108865)
         good = str(self.cluster)
         rows = [
-            (2, ["plan", good], "sumpharu: the arguments of 'plan' and their order: "),
+            (2, ["plan", good], "sumpharu: the arguments of 'plan': "),
             (3, ["plan", str(bad)], "sumpharu: a plain JSON reader stops at line 2, column 13: Expecting value\n"),
             (3, ["plan", good], "sumpharu: docs/FORMATS.md, 'Refusals', "),
             (4, ["plan", good], "tools/explain "),

@@ -257,13 +257,13 @@ class Tools(unittest.TestCase):
         rows = [
             (["pl"], "plan"),
             (["--"], "--help --version"),
-            (["help", ""], "apply check plan"),
+            (["help", ""], "apply check plan session"),
             (["check", "examples/three-brokers.t"], "examples/three-brokers.trace.json"),
             (["check", "a", "examples/three-brokers.t"], "examples/three-brokers.trace.json"),
-            (["plan", "a", ""], "--goals"),
-            (["plan", "a", "--goals", "R"], "RackAwareGoal"),
-            (["check", "a", "b", "--goals", "RackAwareGoal", "-"], "--skip-hard-goal-check"),
-            (["plan", "a", "--goals", "RackAwareGoal", "--skip-hard-goal-check", ""], ""),
+            (["plan", "a", "--"], "--excluded-topics --goals --skip-hard-goal-check --trace"),
+            (["plan", "a", "--goals", "R"], ""),
+            (["check", "a", "b", "--goals", "RackAwareGoal", "--s"], "--skip-hard-goal-check"),
+            (["session", "a", "--m"], "--movers"),
             (["plam", ""], ""),
         ]
         for words, wanted in rows:
