@@ -15,6 +15,10 @@ _sumpharu() {
         [ "$COMP_CWORD" -ne 2 ] || COMPREPLY=($(compgen -W "${!options[*]}" -- "$word"))
         return
     fi
+    if [ -z "${options[${COMP_WORDS[1]:-none}]+known}" ]; then
+        COMPREPLY=()
+        return
+    fi
     case ${COMP_WORDS[COMP_CWORD - 1]} in
     --excluded-topics | --goals | --movers | --planners)
         COMPREPLY=()
