@@ -1,4 +1,4 @@
-# Completion of sumpharu's arguments for bash: source this file. tools/make-manual writes it of docs/help.txt.
+# Completion of sumpharu's arguments for bash: source this file. tools/make-manual writes it.
 _sumpharu() {
     local word=${COMP_WORDS[COMP_CWORD]}
     local -A options=(
@@ -26,7 +26,7 @@ _sumpharu() {
         ;;
     esac
     case $word in
-    -*) COMPREPLY=($(compgen -W "${options[${COMP_WORDS[1]:-none}]}" -- "$word")) ;;
+    -*) COMPREPLY=($(compgen -W "${options[${COMP_WORDS[1]:-none}]} --help" -- "$word")) ;;
     *) mapfile -t COMPREPLY < <(compgen -f -- "$word") ;;
     esac
 }

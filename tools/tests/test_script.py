@@ -1,6 +1,7 @@
 """The script sumpharu, run over a tree of its own with a prover that only pretends: 'rt' is a few lines of shell here."""
 import os
 import pathlib
+import re
 import shutil
 import signal
 import subprocess
@@ -10,6 +11,10 @@ import time
 import unittest
 
 ROOT = pathlib.Path(__file__).resolve().parents[2]
+sys.path.insert(0, str(ROOT / "tools/lib"))
+from commands import NAMES
+
+NO_PROVER = "sumpharu: rt, the prover's command, isn't on the path\n"
 
 # What the pretended prover does is told by files in the folder that CONTROL names.
 RT = r"""#!/bin/sh
@@ -42,6 +47,7 @@ class Script(unittest.TestCase):
         self.addCleanup(shutil.rmtree, self.room)
         self.tree = self.room / "a tree"
         self.control = self.room / "control"
+        self.program = self.tree / "crates/cc_program/out/cc_program"
         for folder in (self.tree / "crates/cc_program/src", self.tree / "crates/base/src", self.control, self.room / "bin"):
             folder.mkdir(parents=True)
         for name in ("sumpharu", "docs", "tools"):
@@ -61,12 +67,12 @@ class Script(unittest.TestCase):
     def write(self, text):
         (self.tree / "crates/cc_program/src/main.rt").write_text(text + "\n")
 
-    def start(self, *words, script=None, prover=True, status=0, cwd=None):
+    def start(self, *words, script=None, prover=True, status=0, cwd=None, **how):
         path = f"{os.path.dirname(sys.executable)}:/usr/bin:/bin"
         path = f"{self.room}/bin:{path}" if prover else path
-        env = {"PATH": path, "CONTROL": str(self.control), "STATUS": str(status)}
-        how = {"stdin": subprocess.PIPE, "stdout": subprocess.PIPE, "stderr": subprocess.PIPE, "text": True}
-        return subprocess.Popen([script or self.tree / "sumpharu", *words], env=env, cwd=cwd or self.room, **how)
+        env = {"PATH": path, "CONTROL": str(self.control), "STATUS": str(status), **how.pop("env", {})}
+        pipes = {"stdin": subprocess.PIPE, "stdout": subprocess.PIPE, "stderr": subprocess.PIPE, "text": True}
+        return subprocess.Popen([script or self.tree / "sumpharu", *words], env=env, cwd=cwd or self.room, **pipes, **how)
 
     def run_script(self, *words, given="", **how):
         ran = self.start(*words, **how)
@@ -137,6 +143,10 @@ class Script(unittest.TestCase):
         self.assertEqual(self.plan()[0], 0)
 
     def test_two_runs_build_once(self):
+        self.write("old")
+        self.plan()
+        self.write("one")
+        (self.control / "started").unlink()
         (self.control / "slow").touch()
         first = self.start("plan", str(self.cluster))
         self.wait_for("started")
@@ -148,7 +158,7 @@ class Script(unittest.TestCase):
             out, err = ran.communicate(timeout=60)
             self.assertEqual((ran.returncode, out), (0, f"one: plan {self.cluster}\n"), err)
         self.assertIn("waiting for another build", err)
-        self.assertEqual(self.calls("run"), 1)
+        self.assertEqual(self.calls("run"), 2)
 
     def processes(self):
         """The processes of this test's own tree: those whose environment names its control folder."""
@@ -167,6 +177,10 @@ class Script(unittest.TestCase):
                 os.kill(process, signal.SIGTERM)
 
     def test_a_killed_build_ends_what_it_started(self):
+        self.write("old")
+        self.plan()
+        self.write("one")
+        (self.control / "started").unlink()
         for number in (signal.SIGTERM, signal.SIGINT, signal.SIGHUP, signal.SIGKILL):
             (self.control / "slow").touch()
             ran = self.start("plan", str(self.cluster))
@@ -177,9 +191,13 @@ class Script(unittest.TestCase):
             self.assertEqual(ran.returncode, -9 if number == signal.SIGKILL else 128 + number)
             self.until(lambda: not any(b"/rt\0" in words for _, words in self.processes()))
             self.end_sleep()
-            ran.communicate()
+            self.assertEqual(ran.communicate()[0], "")
+            self.assertFalse(self.program.exists())
         (self.control / "slow").unlink()
-        self.assertEqual(self.plan()[0], 0)
+        (self.control / "refuses").touch()
+        self.assertEqual(self.plan()[:2], (1, ""))
+        (self.control / "refuses").unlink()
+        self.assertEqual(self.plan()[:2], (0, f"one: plan {self.cluster}\n"))
 
     def test_a_killed_run_ends_the_program(self):
         self.plan()
@@ -200,11 +218,69 @@ class Script(unittest.TestCase):
         self.assertEqual(self.run_script("plan", "x", script="../sumpharu", cwd=self.tree / "docs")[:2], (0, "one: plan x\n"))
 
     def test_no_prover(self):
-        code, out, err = self.plan(prover=False)
-        self.assertEqual((code, out), (1, ""))
-        self.assertEqual(err, "sumpharu: rt, the prover's command, isn't on the path, and the program has to be built with it\n")
+        unbuilt = "sumpharu: the program has to be built, which takes rt: nothing was run\n"
+        self.assertEqual(self.plan(prover=False), (1, "", NO_PROVER + unbuilt))
         self.plan()
-        self.assertEqual(self.plan(prover=False)[:2], (0, f"one: plan {self.cluster}\n"))
+        out = f"one: plan {self.cluster}\n"
+        self.assertEqual(self.plan(prover=False), (0, out, NO_PROVER))
+        self.write("two")
+        self.assertEqual(self.plan(prover=False), (1, "", NO_PROVER + unbuilt))
+        self.write("one")
+        self.assertEqual(self.plan(prover=False), (0, out, NO_PROVER))
+
+    def test_a_prover_that_fails_takes_nothing_away(self):
+        self.plan()
+        (self.control / "version").unlink()
+        code, out, err = self.plan()
+        self.assertEqual((code, out), (1, ""))
+        self.assertIn("sumpharu: 'rt version' failed", err)
+        (self.control / "version").write_text("kit 1\n")
+        self.assertEqual(self.plan()[0], 0)
+        self.assertEqual(self.calls("run"), 1)
+
+    def test_no_checksum(self):
+        """Where no checksum can be made nothing is taken for current."""
+        self.plan()
+        self.write("two")
+        (self.program.parent / "sumpharu.built").write_text("\n\nkit 1\n")
+        tool = self.room / "bin/sha256sum"
+        tool.write_text("#!/bin/sh\nexit 1\n")
+        tool.chmod(0o755)
+        self.assertEqual(self.plan(), (1, "", "sumpharu: no checksum of the sources can be made\n"))
+
+    def test_a_stamp_that_was_cut(self):
+        self.plan()
+        stamp = self.program.parent / "sumpharu.built"
+        lines = stamp.read_text().splitlines(keepends=True)
+        for number, text in enumerate(("", "\n\n\n", "".join(lines[:2]), "".join(lines)[:-1], "x" + "".join(lines))):
+            stamp.write_text(text)
+            self.assertEqual(self.plan()[0], 0)
+            self.assertEqual(self.calls("run"), 2 + number)
+
+    def test_sources_in_odd_places(self):
+        """Files behind links, in folders named out, and with odd names are sources too; what the prover keeps isn't."""
+        elsewhere = self.room / "elsewhere"
+        elsewhere.mkdir()
+        (self.tree / "crates/base/src/link").symlink_to(elsewhere)
+        (elsewhere / "a.rt").write_text("a")
+        inner = self.tree / "crates/base/src/out"
+        inner.mkdir()
+        self.plan()
+        files = [elsewhere / "a.rt", inner / "b.rt", self.tree / "crates/base/two\nlines  and 'quotes'.rt", self.tree / "crates/cc_program/.hidden"]
+        for number, file in enumerate(files):
+            file.write_text("changed")
+            self.plan()
+            self.assertEqual(self.calls("run"), 2 + number, file)
+        (self.tree / "crates/base/out").mkdir()
+        (self.tree / "crates/base/out/kept").write_text("kept")
+        self.assertEqual(self.plan()[2], "")
+
+    def test_the_number_of_crates_side_by_side(self):
+        for number in ("0", "", "two", "-1"):
+            code, out, err = self.run_script("plan", "x", env={"SUMPHARU_JOBS": number})
+            self.assertEqual((code, out, err), (1, "", f"sumpharu: SUMPHARU_JOBS has to be a number above 0, and it is '{number}'\n"))
+        self.assertEqual(self.run_script("plan", "x", env={"SUMPHARU_JOBS": "3"})[0], 0)
+        self.assertEqual(self.calls("all check --jobs 3"), 1)
 
     def test_read_only(self):
         out = self.tree / "crates/cc_program/out"
@@ -213,22 +289,75 @@ class Script(unittest.TestCase):
         self.assertEqual(code, 1)
         self.assertEqual(err, f"sumpharu: the program has to be built, and '{out}' can't be written\n")
 
+    @unittest.skipUnless(os.geteuid() == 0, "only root may run as another user")
+    def test_a_checkout_that_its_user_may_not_write(self):
+        self.room.chmod(0o755)
+        user = {"user": 65534, "group": 65534, "extra_groups": []}
+        self.control.chmod(0o777)
+        unbuilt = f"sumpharu: the program has to be built, and '{self.program.parent}' can't be written\n"
+        self.assertEqual(self.plan(**user), (1, "", unbuilt))
+        self.plan()
+        (self.control / "calls").chmod(0o666)
+        self.assertEqual(self.plan(**user), (0, f"one: plan {self.cluster}\n", ""))
+        self.write("two")
+        self.assertEqual(self.plan(**user), (1, "", unbuilt))
+
     def test_no_build_for_help_and_faulty_words(self):
         text = (ROOT / "docs/help.txt").read_text()
         for words in (["help"], ["--help"], ["-h"], ["help", "else"], ["other", "--help"]):
-            self.assertEqual(self.run_script(*words, prover=False), (0, text, ""))
-        self.assertEqual(self.run_script("--version", prover=False)[1], (ROOT / "docs/version.txt").read_text())
+            self.assertEqual(self.run_script(*words)[:2], (0, text))
+        self.assertEqual(self.run_script("help", "../help")[2], "sumpharu: there is no command '../help'\n")
+        self.assertEqual(self.run_script("--version"), (0, (ROOT / "docs/version.txt").read_text(), ""))
         for words in (["help", "check"], ["check", "--help"], ["check", "a", "-h"]):
-            code, out, _ = self.run_script(*words, prover=False)
-            self.assertEqual(code, 0)
-            self.assertTrue(out.startswith("usage: sumpharu check FILE TRACE "))
-            self.assertIn("\ncheck FILE TRACE\n", out)
-            self.assertNotIn("sumpharu plan", out)
-        for words, hint in (([], "the commands are"), (["plam", "x"], "the commands are"), (["plan apply", "x"], "the commands are"), (["plan"], "help plan'")):
-            code, out, err = self.run_script(*words, prover=False)
+            self.assertEqual(self.run_script(*words), (0, (ROOT / "docs/help/check.txt").read_text(), ""))
+        rows = [
+            ([], "sumpharu: the commands are apply"),
+            (["plam", "x"], "sumpharu: the commands are apply"),
+            (["plan apply", "x"], "sumpharu: the commands are apply"),
+            (["../help", "x"], "sumpharu: the commands are apply"),
+            (["plan"], "sumpharu: these are wanted: plan FILE\n"),
+            (["check", "x"], "sumpharu: these are wanted: check FILE TRACE\n"),
+            (["plan", "x", "y"], "sumpharu: 'plan' takes no further argument, as 'y'\n"),
+            (["plan", "x", "--goal", "y"], "sumpharu: 'plan' has no option '--goal'\n"),
+            (["plan", "x", "-t"], "sumpharu: 'plan' has no option '-t'\n"),
+            (["plan", "x", "--trace=y"], "sumpharu: '--trace' takes no value\n"),
+            (["plan", "x", "--goals"], "sumpharu: '--goals' wants a value\n"),
+            (["plan", "x", "--trace", "--trace"], "sumpharu: '--trace' is given twice\n"),
+        ]
+        for words, hint in rows:
+            code, out, err = self.run_script(*words)
             self.assertEqual((code, out), (2, ""))
-            self.assertTrue(err.startswith("usage error\nsumpharu: "))
-            self.assertIn(hint, err)
+            self.assertTrue(err.startswith(f"usage error\n{hint}"), err)
+        self.assertEqual(self.calls(""), 0)
+
+    def test_what_is_missing_is_said_first(self):
+        for words in (["help"], ["plan", "-h"], ["--version"], [], ["plam"], ["plan"], ["plan", "x"]):
+            with_prover = self.run_script(*words) if words != ["plan", "x"] else (1, "", "")
+            code, out, err = self.run_script(*words, prover=False)
+            self.assertEqual((code, out), with_prover[:2], words)
+            self.assertTrue(err.startswith(NO_PROVER + with_prover[2]), err)
+            self.assertEqual(err.count("isn't on the path"), 1)
+
+    def test_words_are_refused_only_where_the_program_refuses_them(self):
+        """Each command line that the crate of the words has in its tests: one that means a command goes to the program."""
+        text = (ROOT / "crates/command_words/src/tests.rt").read_text()
+        text = text[text.index("const LINES") : text.index("];", text.index("const LINES"))]
+        lines = re.findall(r'\(\s*"((?:[^"])*)",\s*"([^"]*)",?\s*\)', text)
+        self.assertGreater(len(lines), 80)
+        self.plan()
+        passed = []
+        for line, meaning in lines:
+            words = line.split(" ")
+            if words[0] not in NAMES or "-h" in words:
+                continue
+            code, _, err = self.run_script(*words)
+            if code:
+                self.assertEqual((code, meaning), (2, "Usage"), line)
+                self.assertTrue(err.startswith("usage error\n"), line)
+            elif meaning == "Usage":
+                passed.append(line)
+        for line in passed:
+            self.assertRegex(line, "--(movers|planners|brokers|partitions|links) ?=?|^gen ", "only values are left to the program")
 
     def test_hints(self):
         bad = self.room / "bad.json"
@@ -239,13 +368,20 @@ class Script(unittest.TestCase):
         good = str(self.cluster)
         rows = [
             (2, ["plan", good], "sumpharu: the arguments of 'plan': "),
+            (2, ["plan", good, "--goals", "RackGoal"], "sumpharu: '--goals' takes names of docs/GOALS.md, "),
+            (2, ["plan", good, "--goals=RackGoal"], "sumpharu: '--goals' takes names of docs/GOALS.md, "),
             (3, ["plan", str(bad)], "sumpharu: a plain JSON reader stops at line 2, column 13: Expecting value\n"),
             (3, ["plan", good], "sumpharu: docs/FORMATS.md, 'Refusals', "),
-            (4, ["plan", good], "tools/explain "),
+            (4, ["plan", good], f"tools/explain' '{good}' "),
+            (4, ["plan", "--goals", "x", good], f"tools/explain' '{good}' "),
             (5, ["plan", "/none"], "sumpharu: there is no file '/none'\n"),
             (5, ["plan", str(self.room)], f"sumpharu: '{self.room}' is a folder\n"),
             (5, ["plan", str(large)], f"sumpharu: '{large}' has more than 67108864 bytes\n"),
             (5, ["check", good, "/none"], "sumpharu: there is no file '/none'\n"),
+            (5, ["check", good, "--excluded-topics", "x", "--", "--none"], "sumpharu: there is no file '--none'\n"),
+            (5, ["session", "/none"], "sumpharu: there is no file '/none'\n"),
+            (10, ["session", good], "sumpharu: docs/FORMATS.md, 'Requests of the service', "),
+            (11, ["check", good, good], "sumpharu: docs/FORMATS.md, 'The trace', "),
             (0, ["plan", good], ""),
             (7, ["plan", good], ""),
         ]

@@ -260,7 +260,7 @@ class Tools(unittest.TestCase):
             (["help", ""], "apply check plan session"),
             (["check", "examples/three-brokers.t"], "examples/three-brokers.trace.json"),
             (["check", "a", "examples/three-brokers.t"], "examples/three-brokers.trace.json"),
-            (["plan", "a", "--"], "--excluded-topics --goals --skip-hard-goal-check --trace"),
+            (["plan", "a", "--"], "--excluded-topics --goals --help --skip-hard-goal-check --trace"),
             (["plan", "a", "--goals", "R"], ""),
             (["check", "a", "b", "--goals", "RackAwareGoal", "--s"], "--skip-hard-goal-check"),
             (["session", "a", "--m"], "--movers"),

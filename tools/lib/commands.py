@@ -1,0 +1,163 @@
+"""The commands, their options, and how their runs end: the one table of them.
+
+tools/make-manual makes of it what 'sumpharu help' prints, the manual page, bash's completion and the tables of docs/FORMATS.md. A
+further command is one more row of COMMANDS, with its options in OPTIONS, the ends in STATUSES that are its own, and an example.
+"""
+from dataclasses import dataclass
+
+SUMMARY = "plans the partition moves that keep a Kafka cluster within its limits"
+
+
+@dataclass(frozen=True)
+class Command:
+    name: str
+    # The words that have to stand behind it, in order.
+    operands: tuple
+    options: tuple
+    # What it does, said without its name.
+    text: str
+    # Whether its output comes bit by bit; the others write an answer once it is whole.
+    writes_as_it_goes: bool = False
+
+    @property
+    def usage(self):
+        return " ".join([self.name, *self.operands, *(f"[{OPTIONS[name].head}]" for name in self.options)])
+
+    @property
+    def head(self):
+        return " ".join([self.name, *self.operands])
+
+
+@dataclass(frozen=True)
+class Option:
+    name: str
+    # What stands for its value, or nothing where it is a flag.
+    value: str
+    text: str
+    default: str
+
+    @property
+    def head(self):
+        return f"{self.name} {self.value}".strip()
+
+
+@dataclass(frozen=True)
+class End:
+    """How a run of some commands ends: status, cause, and what is then on the output and on the error stream."""
+
+    status: int
+    commands: tuple
+    cause: str
+    output: str
+    line: str
+    # What of a command alone ends so, as "with --trace".
+    only: str = ""
+
+
+OPERANDS = {
+    "FILE": "the cluster file (docs/FORMATS.md), at most 64 MiB",
+    "TRACE": "the trace, as docs/FORMATS.md says, at most 64 MiB",
+}
+
+GOALS = ("--goals", "--skip-hard-goal-check")
+
+OPTIONS = {
+    option.name: option
+    for option in (
+        Option(
+            "--goals",
+            "NAMES",
+            "the goals to plan for (docs/GOALS.md), parted by commas, each at most once. EvacuationGoal and DemotionGoal are always "
+            "among them and aren't named",
+            "all eighteen",
+        ),
+        Option(
+            "--skip-hard-goal-check",
+            "",
+            "allows a list of goals that leaves out hard ones",
+            "where any goal is named, all hard ones have to be",
+        ),
+        Option(
+            "--excluded-topics",
+            "NAMES",
+            "topics, parted by commas, of which no replica moves but off lost brokers; a name of no topic excludes nothing",
+            "none",
+        ),
+        Option("--trace", "", "writes the trace in place of the plan or the failure", "the plan, or the failure"),
+        Option(
+            "--movers",
+            "0",
+            "how many movers work beside the requests: today none, and no other number is taken. `POST /cluster/pump` has the "
+            "service work",
+            "0",
+        ),
+        Option("--planners", "0", "the same of planners", "0"),
+    )
+}
+
+COMMANDS = (
+    Command(
+        "plan",
+        ("FILE",),
+        (*GOALS, "--excluded-topics", "--trace"),
+        "reads a JSON description of a cluster, plans by goals in order of priority, and writes the changes as Kafka's reassignment "
+        "JSON, one line; or, with --trace, the planner's trace, also that of a failure",
+    ),
+    Command(
+        "apply",
+        ("FILE",),
+        (*GOALS, "--excluded-topics"),
+        "plans, carries the plan out within the file's caps on one thread in an in-process executor, and writes the lists of all "
+        "partitions in the same form",
+    ),
+    Command(
+        "check",
+        ("FILE", "TRACE"),
+        (*GOALS, "--excluded-topics"),
+        "says whether a planner's trace is good for the file: `good`, or the first fault, its turn and action from 0, and its kind",
+    ),
+    Command(
+        "session",
+        ("FILE",),
+        ("--movers", "--planners"),
+        "reads HTTP requests from the input and writes their replies to the output, over an in-process cluster; at the input's end, "
+        "or behind a request that closes, it carries out what is left",
+        writes_as_it_goes=True,
+    ),
+)
+
+NAMES = tuple(command.name for command in COMMANDS)
+AT_ONCE = tuple(command.name for command in COMMANDS if not command.writes_as_it_goes)
+LOADERS = tuple(command.name for command in COMMANDS if "FILE" in command.operands)
+NOTHING = "nothing"
+
+# In the order of the statuses, and of the commands where a status has several.
+ENDS = (
+    End(0, ("plan",), "a plan was made", "the reassignment JSON of what changes", NOTHING),
+    End(0, ("plan",), "a plan was made", "its trace", NOTHING, only="with --trace"),
+    End(0, ("apply",), "a plan was made and carried out", "the reassignment JSON of all lists", NOTHING),
+    End(0, ("check",), "the trace is good", "good", NOTHING),
+    End(0, ("session",), "the input was read to its end or to a request that closes, and nothing is left to do", "the replies", NOTHING),
+    End(2, NAMES, "the arguments are no command", NOTHING, "usage error"),
+    End(3, LOADERS, "the cluster file was loaded and is refused", NOTHING, "cluster refused: FAULT"),
+    End(4, ("plan", "apply"), "a hard goal fails, with the measure that is left", '{"failed":"GOAL","measure":"N"}', "hard goal failed: GOAL"),
+    End(4, ("plan",), "a hard goal fails", "the trace up to there", "hard goal failed: GOAL", only="with --trace"),
+    End(5, LOADERS, "a file can't be loaded: absent, unreadable, above 67,108,864 bytes", NOTHING, "file fault"),
+    End(6, ("session",), "the input can't be read; what was left is carried out", "the replies so far", "read fault"),
+    End(7, NAMES, "the output can't be written", "a prefix of the text", "write fault"),
+    End(9, AT_ONCE, "out of memory", NOTHING, "want of memory"),
+    End(9, ("session",), "out of memory", "the replies so far", "want of memory"),
+    End(10, ("session",), "the input ended inside a request, or can't be framed; what was left is carried out", "the replies, also that of the refusal", "input cut"),
+    End(11, ("check",), "the trace isn't good, or is no trace", "fault T A KIND", "trace refused"),
+    End(1, (), "the program couldn't be built; no older one is run", NOTHING, "what the build said", only="the script"),
+)
+
+EXAMPLES = (
+    "plan examples/three-brokers.json",
+    "plan examples/three-zones.json > moves.json",
+    "plan examples/lost-broker.json --goals RackAwareGoal --skip-hard-goal-check",
+    "plan examples/three-brokers.json --trace > trace.json",
+    "apply examples/three-zones.json --goals RackAwareGoal --skip-hard-goal-check",
+    "check examples/three-brokers.json examples/three-brokers.trace.json --goals RackAwareGoal --skip-hard-goal-check",
+    "session examples/two-brokers.json < examples/requests.http",
+)
