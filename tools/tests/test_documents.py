@@ -9,6 +9,19 @@ ROOT = pathlib.Path(__file__).resolve().parents[2]
 sys.path.insert(0, str(ROOT / "tools/lib"))
 from goals import GOALS
 
+# Words that stand in texts of the program alone, and so in code.
+FORBIDDEN = ("can't be had", "a front of", "want of memory", "exactly where", "that can be had")
+PAGES = [ROOT / "README.md", *ROOT.glob("docs/*.md")]
+HEADINGS = [
+    "What it needs",
+    "Run it",
+    "Drain a broker, or take leadership from it",
+    "Read a plan",
+    "Check a plan",
+    "The service",
+    "The promise",
+    "Test it",
+]
 PROGRAM = ROOT / "crates/cc_program/out/cc_program"
 
 
@@ -20,13 +33,46 @@ def anchors(text):
 
 class Documents(unittest.TestCase):
     def test_links(self):
-        for page in [ROOT / "README.md", *ROOT.glob("docs/*.md")]:
+        for page in PAGES:
             for link in re.findall(r"\]\(([^)\s]+)\)", page.read_text()):
                 name, _, anchor = link.partition("#")
                 target = page.parent / name if name else page
                 self.assertTrue(target.exists(), f"{page.name}: {link}")
                 if anchor:
                     self.assertIn(anchor, anchors(target.read_text()), f"{page.name}: {link}")
+
+    def test_words(self):
+        """The documents say in plain words what the program's own texts, which stand as code, say in theirs."""
+        for page in PAGES:
+            text = re.sub(r"^    .*$", "", page.read_text(), flags=re.M)
+            text = re.sub(r"`[^`\n]*`", "", text).lower()
+            for words in FORBIDDEN:
+                self.assertNotIn(words, text, page.name)
+
+    def test_readme(self):
+        text = (ROOT / "README.md").read_text()
+        self.assertLess(len(text.split()), 900)
+        self.assertEqual(re.findall(r"^## (.*)$", text, re.M), HEADINGS)
+        self.assertEqual(len(re.findall(r"^\d+\. ", text, re.M)), 10)
+
+    def test_crates(self):
+        """Each crate has its row in the list of what is proved, and those that the program isn't made of stand apart."""
+        below = {}
+        for line in (ROOT / "crates.txt").read_text().splitlines():
+            head, colon, names = line.partition("#")[0].partition(":")
+            if colon:
+                below[head.split()[0]] = names.split()
+        used, left = set(), ["cc_program"]
+        while left:
+            name = left.pop()
+            left += [it for it in below.get(name, ()) if it in below and it not in used]
+            used.add(name)
+        text = (ROOT / "docs/PROVED.md").read_text()
+        start = text.index("## What the program doesn't use yet")
+        apart = text[start : text.index("\n## ", start + 1)]
+        for name in below:
+            self.assertIn(name, text)
+        self.assertEqual(set(re.findall(r"^\| (\w+) \| ", apart, re.M)) - {"crate"}, set(below) - used)
 
     def test_goals(self):
         rows = re.findall(r"^\| (\w+Goal) \| (.*)$", (ROOT / "docs/GOALS.md").read_text(), re.M)
