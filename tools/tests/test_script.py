@@ -311,10 +311,10 @@ class Script(unittest.TestCase):
         for words in (["help", "check"], ["check", "--help"], ["check", "a", "-h"]):
             self.assertEqual(self.run_script(*words), (0, (ROOT / "docs/help/check.txt").read_text(), ""))
         rows = [
-            ([], "sumpharu: the commands are apply"),
-            (["plam", "x"], "sumpharu: the commands are apply"),
-            (["plan apply", "x"], "sumpharu: the commands are apply"),
-            (["../help", "x"], "sumpharu: the commands are apply"),
+            ([], "sumpharu: the commands are apply, check, plan, session: "),
+            (["plam", "x"], "sumpharu: the commands are apply, check, plan, session: "),
+            (["plan apply", "x"], "sumpharu: the commands are apply, check, plan, session: "),
+            (["../help", "x"], "sumpharu: the commands are apply, check, plan, session: "),
             (["plan"], "sumpharu: these are wanted: plan FILE\n"),
             (["check", "x"], "sumpharu: these are wanted: check FILE TRACE\n"),
             (["plan", "x", "y"], "sumpharu: 'plan' takes no further argument, as 'y'\n"),

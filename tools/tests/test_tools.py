@@ -67,10 +67,16 @@ class Tools(unittest.TestCase):
         return ran.returncode, ran.stdout, ran.stderr
 
     def test_help_and_errors_are_short(self):
-        for name in ("from-kafka", "show-plan", "explain", "json-place"):
+        names = [path.name for path in (ROOT / "tools").iterdir() if path.is_file()]
+        self.assertGreater(len(names), 9)
+        for name in names:
             code, out, err = self.tool(name, "--help")
-            self.assertEqual((code, err), (0, ""))
-            self.assertIn(f"usage: {name} ", out)
+            self.assertEqual((code, err), (0, ""), name)
+            self.assertIn(f"\nusage: {name} ", out)
+            code, out, err = self.tool(name, "--nothing", "of this")
+            self.assertEqual((code, out, err.count("\n")), (2, "", 1), name)
+            self.assertTrue(err.startswith(f"{name}: "), err)
+        for name in ("from-kafka", "show-plan", "explain", "json-place", "gen-cluster"):
             code, out, err = self.tool(name)
             self.assertEqual((code, out, err.count("\n")), (2, "", 1), name)
         bad = self.file("bad", "{")
@@ -86,6 +92,17 @@ class Tools(unittest.TestCase):
             ("show-plan", zones, good, "--htm"),
             ("explain", zones, "RackGoal"),
             ("explain", self.file("unknown", {"version": 1, "brokers": [], "partitions": [{"topic": "t", "partition": 0, "replicas": [1]}]})),
+            ("gen-cluster", "one"),
+            ("gen-cluster", "1", "--brokers", "-4"),
+            ("large-cluster", "4", "5", "6"),
+            ("random-clusters", "1"),
+            ("measure-plans", "--sizes", "40"),
+            ("compare-plans", "--program", "/none"),
+            ("compare-plans", "--program", "true"),
+            ("executions", "--calls", "x"),
+            ("explain", zones, "--plan"),
+            ("explain", zones, "--plans"),
+            ("show-plan", zones, good, "--html", "--rollback"),
             ("from-kafka", "--describe", good),
             ("from-kafka", "--describe", bad, "--load", bad),
             ("from-kafka", "--cluster-state", good),
@@ -248,7 +265,6 @@ class Tools(unittest.TestCase):
         code, out, err = self.tool("executions")
         self.assertEqual((code, err), (0, ""))
         self.assertEqual(squeezed(out), squeezed((ROOT / "crates/executor_core/src/tests/random.rt").read_text()))
-        self.assertEqual(self.tool("executions", "--seed"), (2, "", "executions: --seed wants a number\n"))
 
     def test_manual_and_completion_are_those_of_the_help(self):
         self.assertEqual(self.tool("make-manual", "--check"), (0, "", ""))
