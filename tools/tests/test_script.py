@@ -289,7 +289,7 @@ class Script(unittest.TestCase):
         self.assertEqual(code, 1)
         self.assertEqual(err, f"sumpharu: the program has to be built, and '{out}' can't be written\n")
 
-    @unittest.skipUnless(os.geteuid() == 0, "only root may run as another user")
+    @unittest.skipUnless(os.geteuid() == 0 and sys.version_info >= (3, 9), "only root may run as another user, from Python 3.9 on")
     def test_a_checkout_that_its_user_may_not_write(self):
         self.room.chmod(0o755)
         user = {"user": 65534, "group": 65534, "extra_groups": []}
