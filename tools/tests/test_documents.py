@@ -79,6 +79,26 @@ class Documents(unittest.TestCase):
         named = [name for name, _ in rows]
         self.assertEqual([name for name in dict.fromkeys(named)], [goal.name for goal in GOALS])
 
+    def test_goals_are_those_of_the_program(self):
+        text = (ROOT / "crates/goal_set/src/kinds.rt").read_text()
+        rows = [(name, hard == "true") for name, hard in re.findall(r'name: "(\w+)",\s*hard: (\w+),', text)]
+        self.assertEqual(rows, [(goal.name, goal.is_hard) for goal in GOALS])
+        page = (ROOT / "docs/GOALS.md").read_text()
+        for title, is_hard in (("Hard", True), ("Soft", False)):
+            part = page.partition(f"## {title} goals\n")[2].partition("\n## ")[0]
+            self.assertEqual(re.findall(r"^\| (\w+Goal) \|", part, re.M), [name for name, hard in rows if hard == is_hard])
+
+    def test_formats_name_what_the_program_knows(self):
+        page = (ROOT / "docs/FORMATS.md").read_text()
+        settings = set(re.findall(r'"([a-z]+(?:\.[a-z]+)+)"', (ROOT / "crates/cluster_json/src/settings.rt").read_text()))
+        self.assertEqual(set(re.findall(r"^\| `([a-z]+(?:\.[a-z]+)+)` \|", page, re.M)), settings)
+        refusals = page.partition("## Refusals\n")[2].partition("\n## ")[0]
+        texts = (ROOT / "crates/cluster_json/specs/Texts.antt").read_text()
+        known = set(re.findall(r'^(?:case|fault)_text .*codes "(\w+)', texts, re.M)) - {"Memory"}
+        self.assertEqual(set(re.findall(r"^\| `(\w+)", refusals, re.M)), known)
+        kinds = set(re.findall(r'^fault_name .*codes "(\w+)"', (ROOT / "crates/plan_check/specs/Names.antt").read_text(), re.M))
+        self.assertEqual(set(re.findall(r"^\| `([A-Z]+_?[A-Z]+_?[A-Z]*)` \|", page, re.M)) - {"NOT_A_TRACE"}, kinds)
+
     @unittest.skipUnless(PROGRAM.exists(), "the program isn't built")
     def test_examples(self):
         """Each command of README that a line of output follows after an empty line prints that line."""

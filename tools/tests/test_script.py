@@ -310,11 +310,12 @@ class Script(unittest.TestCase):
         self.assertEqual(self.run_script("--version"), (0, (ROOT / "docs/version.txt").read_text(), ""))
         for words in (["help", "check"], ["check", "--help"], ["check", "a", "-h"]):
             self.assertEqual(self.run_script(*words), (0, (ROOT / "docs/help/check.txt").read_text(), ""))
+        commands = f"sumpharu: the commands are {', '.join(sorted(NAMES))}: "
         rows = [
-            ([], "sumpharu: the commands are apply, check, plan, session: "),
-            (["plam", "x"], "sumpharu: the commands are apply, check, plan, session: "),
-            (["plan apply", "x"], "sumpharu: the commands are apply, check, plan, session: "),
-            (["../help", "x"], "sumpharu: the commands are apply, check, plan, session: "),
+            ([], commands),
+            (["plam", "x"], commands),
+            (["plan apply", "x"], commands),
+            (["../help", "x"], commands),
             (["plan"], "sumpharu: these are wanted: plan FILE\n"),
             (["check", "x"], "sumpharu: these are wanted: check FILE TRACE\n"),
             (["plan", "x", "y"], "sumpharu: 'plan' takes no further argument, as 'y'\n"),

@@ -3,10 +3,14 @@ import json
 import os
 import pathlib
 import subprocess
+import sys
 import tempfile
 import unittest
 
 ROOT = pathlib.Path(__file__).resolve().parents[2]
+sys.path.insert(0, str(ROOT / "tools/lib"))
+from commands import NAMES
+
 DESCRIBED = """Topic: orders\tTopicId: 0kZ\tPartitionCount: 2\tReplicationFactor: 2\tConfigs: segment.bytes=1
 \tTopic: orders\tPartition: 0\tLeader: 2\tReplicas: 1,2\tIsr: 1,2\tElr: \tLastKnownElr: \tAdding Replicas: 2\tRemoving Replicas:
 \tTopic: orders\tPartition: 1\tLeader: none\tReplicas: 3,1\tIsr: 3
@@ -273,7 +277,7 @@ class Tools(unittest.TestCase):
         rows = [
             (["pl"], "plan"),
             (["--"], "--help --version"),
-            (["help", ""], "apply check plan session"),
+            (["help", ""], " ".join(sorted(NAMES))),
             (["check", "examples/three-brokers.t"], "examples/three-brokers.trace.json"),
             (["check", "a", "examples/three-brokers.t"], "examples/three-brokers.trace.json"),
             (["plan", "a", "--"], "--excluded-topics --goals --help --skip-hard-goal-check --trace"),
