@@ -5,12 +5,14 @@ What the program refuses isn't found here in full: a file is taken where it has 
 from __future__ import annotations
 
 import json
+import re
 import sys
 from dataclasses import dataclass
 
 # The resources, in the order in which a load and a capacity have them.
 RESOURCES = ("CPU", "NW_IN", "NW_OUT", "DISK")
 NO_LIMIT = 2**40 - 1
+STATES = ("ALIVE", "DEAD", "NEW", "DEMOTED")
 
 
 class Fault(Exception):
@@ -26,6 +28,8 @@ class Ratio:
 
     @staticmethod
     def read(text):
+        if not re.fullmatch(r"[0-9]+(\.[0-9]+)?", str(text)):
+            raise ValueError(f"{text!r} is no ratio")
         whole, _, decimals = str(text).partition(".")
         return Ratio(int(whole + decimals), 10 ** len(decimals))
 
@@ -105,23 +109,51 @@ def read_json(name):
         raise Fault(f"{name}: {fault.strerror}") from fault
     except ValueError as fault:
         raise Fault(f"{name} is no JSON: {fault}") from fault
+    except RecursionError as fault:
+        raise Fault(f"{name} is nested too deeply") from fault
+
+
+def whole(value):
+    """The value, where it is a whole number."""
+    if type(value) is not int or value < 0:
+        raise ValueError(f"{value!r} is no whole number")
+    return value
+
+
+def text(value):
+    """The value, where it is a text."""
+    if not isinstance(value, str):
+        raise ValueError(f"{value!r} is no text")
+    return value
+
+
+def replicas_of(value):
+    """The value, where it is a list of ids of distinct brokers."""
+    ids = [whole(id) for id in value]
+    if not ids or len(set(ids)) < len(ids):
+        raise ValueError(f"{value!r} is no list of replicas")
+    return ids
 
 
 def read_load(load):
     leader, follower = load.get("leader", {}), load.get("follower", {})
-    return tuple(leader.get(it, 0) for it in RESOURCES), tuple(0 if it == "NW_OUT" else follower.get(it, 0) for it in RESOURCES)
+    amounts = lambda side: [whole(side.get(it, 0)) for it in RESOURCES]
+    return tuple(amounts(leader)), tuple(0 if it == "NW_OUT" else amount for it, amount in zip(RESOURCES, amounts(follower)))
 
 
 def read_capacities(entries):
     """The capacities by broker, with -1 for all others; without entries nothing is limited."""
     if entries is None:
         return {-1: (NO_LIMIT,) * 4}
-    return {int(entry["brokerId"]): tuple(int(str(entry["capacity"][it]).partition(".")[0]) for it in RESOURCES) for entry in entries}
+    amount = lambda value: whole(int(text(value).partition(".")[0]))
+    return {int(entry["brokerId"]): tuple(amount(entry["capacity"][it]) for it in RESOURCES) for entry in entries}
 
 
 def read_broker(value, capacities):
-    capacity = capacities.get(value["id"]) or capacities[-1]
-    return Broker(value["id"], value.get("rack"), value.get("state", "ALIVE"), capacity)
+    id, rack, state = whole(value["id"]), value.get("rack"), value.get("state", "ALIVE")
+    if state not in STATES:
+        raise ValueError(f"{state!r} is no state of a broker")
+    return Broker(id, rack if rack is None else text(rack), state, capacities.get(id) or capacities[-1])
 
 
 def read_settings(config):
@@ -133,7 +165,7 @@ def read_settings(config):
         replicas=ratio("replica.count.balance.threshold", "1.10"),
         leaders=ratio("leader.replica.count.balance.threshold", "1.10"),
         topics=ratio("topic.replica.count.balance.threshold", "3.00"),
-        max_replicas=int(config.get("max.replicas.per.broker", 10000)),
+        max_replicas=whole(int(config.get("max.replicas.per.broker", 10000))),
     )
 
 
@@ -187,10 +219,10 @@ def cluster_of(value):
     capacities, config = read_capacities(value.get("brokerCapacities")), value.get("config", {})
     partitions, lists = [], []
     for entry in value["partitions"]:
-        partitions.append(Partition(entry["topic"], entry["partition"], *read_load(entry.get("load", {}))))
-        lists.append(list(entry["replicas"]))
+        partitions.append(Partition(text(entry["topic"]), whole(entry["partition"]), *read_load(entry.get("load", {}))))
+        lists.append(replicas_of(entry["replicas"]))
     place_of = {(partition.topic, partition.number): at for at, partition in enumerate(partitions)}
-    samples = [(place_of[it["topic"], it["partition"]], it["time"], read_load(it["load"])) for it in value.get("samples", [])]
+    samples = [(place_of[it["topic"], it["partition"]], whole(it["time"]), read_load(it["load"])) for it in value.get("samples", [])]
     for place, load in loads_of_samples(samples, config).items():
         partitions[place] = Partition(partitions[place].topic, partitions[place].number, *load)
     least = value.get("minTopicLeaders", []) if value["version"] == 2 else []
@@ -199,7 +231,7 @@ def cluster_of(value):
         partitions=partitions,
         lists=lists,
         settings=read_settings(config),
-        least_leaders={entry["topic"]: entry["leaders"] for entry in least},
+        least_leaders={text(entry["topic"]): whole(entry["leaders"]) for entry in least},
     )
 
 
@@ -208,7 +240,7 @@ def read_cluster(name):
     try:
         cluster = cluster_of(value)
         unknown = {id for members in cluster.lists for id in members} - set(cluster.by_id)
-    except (KeyError, TypeError, ValueError, AttributeError) as fault:
+    except (KeyError, TypeError, ValueError, AttributeError, ArithmeticError) as fault:
         raise Fault(f"{name} is no cluster file: {type(fault).__name__} {fault}; sumpharu plan tells its first fault") from fault
     if unknown:
         raise Fault(f"{name} is no cluster file: no broker has the id {min(unknown)}; sumpharu plan tells its first fault")
@@ -220,14 +252,14 @@ def read_plan(name, cluster):
     value, lists, place_of = read_json(name), list(cluster.lists), cluster.place_of()
     try:
         for entry in value["partitions"]:
-            place, members = place_of[entry["topic"], entry["partition"]], list(entry["replicas"])
-            if not members or len(set(members)) < len(members) or not set(members) <= set(cluster.by_id):
-                raise Fault(f"{name}: the replicas of {entry['topic']}-{entry['partition']} are no list of distinct brokers of the cluster file")
+            place, members = place_of[entry["topic"], entry["partition"]], replicas_of(entry["replicas"])
+            if not set(members) <= set(cluster.by_id):
+                raise ValueError(f"{members} are not all brokers of the cluster file")
             lists[place] = members
     except KeyError as fault:
         raise Fault(f"{name} is no plan for this cluster file: it has no {fault}") from fault
-    except (TypeError, AttributeError) as fault:
-        raise Fault(f"{name} is no plan: {fault}") from fault
+    except (TypeError, ValueError, AttributeError) as fault:
+        raise Fault(f"{name} is no plan for this cluster file: {fault}") from fault
     return lists
 
 
@@ -237,9 +269,15 @@ def run_tool(main):
         status = main()
         sys.stdout.flush()
     except Fault as fault:
-        print(f"{sys.argv[0].rpartition('/')[2]}: {fault}", file=sys.stderr)
+        line = " ".join(str(fault).split("\n")).encode(errors="backslashreplace").decode()
+        print(f"{sys.argv[0].rpartition('/')[2]}: {line}", file=sys.stderr)
+        status = 2
+    except UnicodeEncodeError as fault:
+        print(f"{sys.argv[0].rpartition('/')[2]}: a text can't be written: {fault.reason}", file=sys.stderr)
         status = 2
     except BrokenPipeError:
         sys.stderr.close()
         status = 1
+    except KeyboardInterrupt:
+        status = 130
     sys.exit(status)

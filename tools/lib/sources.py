@@ -3,10 +3,9 @@ import json
 import math
 import re
 
-from clusters import RESOURCES, Fault
+from clusters import RESOURCES, STATES, Fault, replicas_of, text
 
 LIMITS = (("brokers", 200), ("topics", 1000), ("partitions", 10000))
-STATES = ("ALIVE", "DEAD", "NEW", "DEMOTED")
 # The members of Cruise Control's /load that are capacities, by resource.
 CAPACITIES = {"DISK": "DiskCapacityMB", "NW_IN": "NetworkInCapacity", "NW_OUT": "NetworkOutCapacity"}
 
@@ -52,13 +51,11 @@ class Found:
         return self.brokers.setdefault(id, {"id": id})
 
     def take_partition(self, topic, number, replicas, leader):
-        if not replicas:
-            raise Fault(f"{topic}-{number} has no replicas")
-        self.partitions[topic, number] = (replicas, leader)
+        self.partitions[text(topic), number] = (replicas_of(replicas), leader)
 
-    def take_described(self, text):
+    def take_described(self, lines):
         """Lines of 'kafka-topics.sh --describe': those of a partition have 'Partition:' and 'Replicas:'."""
-        for at, line in enumerate(text.splitlines(), 1):
+        for at, line in enumerate(lines.splitlines(), 1):
             topic, number, replicas = (field(line, name) for name in ("Topic", "Partition", "Replicas"))
             if number is None or replicas is None:
                 continue
@@ -80,7 +77,7 @@ class Found:
                     self.take_partition(it["topic"], int(it["partition"]), [int(id) for id in it["replicas"]], it.get("leader"))
             for id in value.get("KafkaBrokerState", {}).get("ReplicaCountByBrokerId", {}):
                 self.broker(int(id))
-        except (KeyError, TypeError, ValueError, AttributeError) as fault:
+        except (KeyError, TypeError, ValueError, AttributeError, ArithmeticError) as fault:
             raise Fault(f"that is no answer to /kafka_cluster_state?json=true: {type(fault).__name__} {fault}") from fault
         if not self.partitions:
             raise Fault("the answer to /kafka_cluster_state names no partition: ask with verbose=true")
@@ -95,7 +92,7 @@ class Found:
                 if all(member in it for member in CAPACITIES.values()):
                     capacity = {name: it[member] for name, member in CAPACITIES.items()}
                     self.capacities[broker["id"]] = capacity_of({**capacity, "CPU": 100}, f"broker {broker['id']}")
-        except (KeyError, TypeError, ValueError, AttributeError) as fault:
+        except (KeyError, TypeError, ValueError, AttributeError, ArithmeticError) as fault:
             raise Fault(f"that is no answer to /load?json=true: {type(fault).__name__} {fault}") from fault
 
     def take_state_of(self, broker, state):
@@ -120,7 +117,7 @@ class Found:
                 self.capacities[id] = capacity_of(entry["capacity"], f"broker {id}")
                 if id >= 0:
                     self.take_rack(self.broker(id), entry.get("rack"))
-        except (KeyError, TypeError, ValueError, AttributeError) as fault:
+        except (KeyError, TypeError, ValueError, AttributeError, ArithmeticError) as fault:
             raise Fault(f"that is no file of capacities: {type(fault).__name__} {fault}") from fault
 
     def take_rack(self, broker, rack):

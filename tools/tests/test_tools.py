@@ -119,6 +119,49 @@ class Tools(unittest.TestCase):
             self.assertEqual((code, out, err.count("\n")), (2, "", 1), words)
             self.assertTrue(err.startswith(f"{words[0]}: "), err)
 
+    def test_malformed_files_are_one_line(self):
+        """A file that another tool would refuse is told in one line, whatever is wrong with it."""
+        zones = ROOT / "examples/three-zones.json"
+        changes = [
+            lambda it: it["partitions"][0].update(replicas=[]),
+            lambda it: it["partitions"][0].update(replicas=[101, 101]),
+            lambda it: it["partitions"][0].update(replicas="101"),
+            lambda it: it["partitions"][0].update(topic=["t"]),
+            lambda it: it["partitions"][0].update(load={"leader": {"DISK": "5"}}),
+            lambda it: it["partitions"][0].update(load=[]),
+            lambda it: it["brokers"][0].update(rack={}),
+            lambda it: it["brokers"][0].update(state="LOST"),
+            lambda it: it["brokers"][0].update(id="101"),
+            lambda it: it.update(config={"disk.capacity.threshold": "-1"}),
+            lambda it: it.update(config=[]),
+            lambda it: it.update(brokerCapacities=[{"brokerId": "-1", "capacity": {"DISK": "x"}}]),
+            lambda it: it.update(version=2, minTopicLeaders=[{"topic": "orders", "leaders": "1"}]),
+            lambda it: it.update(
+                config={"partition.metrics.window.ms": 0}, samples=[{"topic": "orders", "partition": 0, "time": 1, "load": {}}]
+            ),
+        ]
+        for at, change in enumerate(changes):
+            value = json.loads(zones.read_text())
+            change(value)
+            code, out, err = self.tool("explain", self.file("changed", value))
+            self.assertEqual((code, out, err.count("\n")), (2, "", 1), (at, err))
+        deep = self.file("deep", "[" * 100000)
+        inputs = [
+            (["explain", deep], None),
+            (["show-plan", zones, self.file("plan", {"partitions": [{"topic": "orders", "partition": 0, "replicas": "x"}]})], None),
+            (["from-kafka", "--describe", "-"], "Partition: 0 Replicas: 1,2"),
+            (["from-kafka", "--describe", "-"], "Topic: t Partition: 0 Replicas: 1,x"),
+            (["from-kafka", "--describe", "-"], "Topic: t Partition: 0 Replicas: 1,1"),
+            (["from-kafka", "--describe", zones, "--capacity", "-"], json.dumps(CAPACITIES)),
+            (["from-kafka", "--cluster-state", "-"], json.dumps(STATE).replace('"partition": 1', '"partition": 1e999')),
+            (["from-kafka", "--cluster-state", "-", "--capacity", self.file("c", CAPACITIES)], json.dumps(STATE).replace('"topic": "t"', '"topic": null')),
+            (["from-kafka", "--cluster-state", self.file("s", STATE), "--load", "-"], json.dumps(LOAD).replace("500.5", "1e999")),
+            (["from-kafka", "--cluster-state", self.file("s", STATE), "--load", "-"], json.dumps(LOAD).replace('"b"', '"\\ud800"')),
+        ]
+        for words, given in inputs:
+            code, out, err = self.tool(*words, given=given)
+            self.assertEqual((code, out, err.count("\n")), (2, "", 1), (words, err))
+
     def test_shows_a_plan(self):
         code, out, err = self.tool("show-plan", "examples/three-zones.json", "-", given=json.dumps(PLAN))
         self.assertEqual((code, err), (0, ""))
