@@ -21,18 +21,23 @@ RT = r"""#!/bin/sh
 control=$CONTROL
 echo "$*" >>"$control/calls"
 case $1 in
-version) cat "$control/version" ;;
+version)
+    cat "$control/version"
+    [ ! -e "$control/swap" ] || mv "$control/swap" "$(cat "$control/where")"
+    ;;
 all)
     echo "== base"; echo "== cc_program"; echo "== summary"
     [ ! -e "$control/killed" ] || { echo 'base: failed (-9)'; exit 1; }
     ;;
 run)
+    [ ! -e "$control/ends" ] || kill -"$(cat "$control/ends")" "$PPID"
     echo started >>"$control/started"
     [ ! -e "$control/refuses" ] || { echo 'rt: crates.txt: line 3 is not of the form'; exit 2; }
     [ ! -e "$control/slow" ] || { sleep 30 & wait $!; }
     text=$(cat ../../crates/cc_program/src/main.rt)
     printf '#!/bin/sh\n[ "$2" != nap ] || exec sleep 30\necho "%s: $*"\ncat\nexit ${STATUS-0}\n' "$text" >out/cc_program
     chmod +x out/cc_program
+    [ ! -e "$control/late" ] || { echo 'rt: the program was not proved'; exit 2; }
     [ ! -e "$control/edits" ] || echo 'edited' >../../crates/cc_program/src/main.rt
     echo 'rt: running out/cc_program; to give it other input, run that file yourself' >&2
     exit 2
@@ -130,6 +135,14 @@ class Script(unittest.TestCase):
         (self.control / "refuses").unlink()
         self.assertTrue(self.plan()[1].startswith("two:"))
 
+    def test_a_program_that_came_before_the_refusal_isnt_run(self):
+        (self.control / "late").touch()
+        for _ in range(2):
+            code, out, err = self.plan()
+            self.assertEqual((code, out), (1, ""))
+            self.assertIn("rt: the program was not proved", err)
+        self.assertEqual(self.calls("run"), 2)
+
     def test_an_edit_during_the_build_runs_nothing(self):
         (self.control / "edits").touch()
         code, out, err = self.plan()
@@ -199,6 +212,18 @@ class Script(unittest.TestCase):
         (self.control / "refuses").unlink()
         self.assertEqual(self.plan()[:2], (0, f"one: plan {self.cluster}\n"))
 
+    def test_a_build_that_is_killed_as_its_prover_starts(self):
+        """The prover's first act is to end the script, which may not know its process yet."""
+        (self.control / "slow").touch()
+        for name in ("TERM", "INT", "HUP", "KILL"):
+            (self.control / "ends").write_text(name)
+            ran = self.start("plan", str(self.cluster))
+            ran.wait(timeout=60)
+            self.until(lambda: not any(b"/rt\0" in words for _, words in self.processes()))
+            self.end_sleep()
+            self.assertEqual(ran.communicate()[0], "")
+            self.assertFalse(self.program.exists())
+
     def test_a_killed_run_ends_the_program(self):
         self.plan()
         for number in (signal.SIGTERM, signal.SIGINT, signal.SIGHUP):
@@ -237,6 +262,18 @@ class Script(unittest.TestCase):
         (self.control / "version").write_text("kit 1\n")
         self.assertEqual(self.plan()[0], 0)
         self.assertEqual(self.calls("run"), 1)
+
+    def test_what_runs_is_what_was_checked(self):
+        """A program that takes the place of the one that was compared isn't run."""
+        self.plan()
+        (self.control / "where").write_text(str(self.program))
+        other = self.control / "swap"
+        other.write_text("#!/bin/sh\necho other\n")
+        other.chmod(0o755)
+        self.assertEqual(self.plan()[:2], (0, f"one: plan {self.cluster}\n"))
+        self.assertFalse(other.exists())
+        self.assertEqual(self.plan()[:2], (0, f"one: plan {self.cluster}\n"))
+        self.assertEqual(self.calls("run"), 2)
 
     def test_no_checksum(self):
         """Where no checksum can be made nothing is taken for current."""
