@@ -8,4 +8,4 @@ mod whole;
 
 pub use calls::{Asked, asked_by};
 pub use session::{LinkEnd, serve};
-pub use whole::{SessionEnd, run_session};
+pub use whole::{SessionEnd, finish, run_session};

@@ -42,8 +42,8 @@ fn close<A: Admin>(book: &mut Book<A>)
     }
 }
 
-// Makes rounds until no task and no job is unfinished. A book with a lease or a ticket out is left as it is, as one without memory.
-fn finish<A: Admin, K: Copier>(alloc: Global, book: &mut Book<A>, copier: &mut K) -> DrainEnd
+/// Makes rounds until no task and no job is unfinished. A book with a lease or a ticket out is left as it is, as one without memory.
+pub fn finish<A: Admin, K: Copier>(alloc: Global, book: &mut Book<A>, copier: &mut K) -> DrainEnd
     ensures since { IsSince A.faults book.old book.new }
     ensures rounds { HasDrainedAlone (known_by_owner book.old) (known_by_owner book.new) (copier_of K.copies K.faults copier.old) (copier_of K.copies K.faults copier.new) result }
     ensures drained { result ≡ DrainEnd.Drained → IsDone (state_of book.new).desk }

@@ -1,0 +1,100 @@
+-- Workers, one beside another.
+use Rattle.std.proofs.Common.{◌≡◌, ◌<◌, ℕ, ◌+◌, suc, slice_index_or, List, [], ◌∷◌, ◌++◌, length, map, refl, ap, sym, ◌∙◌, subst, append_assoc, append-nil, arith}
+use Rattle.std.specs.List.{AllByRecursion, remove}
+use mathlib.Core.List.{IsPrefix}
+use Rattle.cluster_json.specs.File.{Meaning}
+use Rattle.core_terms.specs.declared.events.Event.{Event}
+use Rattle.mover_rounds.specs.Made.{Copies}
+use Rattle.mover_rounds.proofs.Prefixes.{prefix_self, prefix_trans}
+use Rattle.mover_workers.specs.Callers.{IsLater}
+use Rattle.turn_book.specs.Known.{HasJoined, IsCut}
+use Rattle.live_service.specs.Workers.{AllSaw, HasMovedOnce, HasPlannedOnce, HasRun, HasRunAll, HasShares, Mover, Pass, Planner, shares_of}
+
+saw_on : (h g : List Event) → IsPrefix h g → (ps : List Pass) → AllSaw h ps → AllSaw g ps
+saw_on h g p [] a = tt
+saw_on h g p (q ∷ ps) a = (prefix_trans q.seen h g a.0 p, saw_on h g p ps a.1)
+
+mine_more : (a b c d e : List (ℕ × Event)) → e ≡ c ++ d → c ≡ a ++ b → e ≡ a ++ (b ++ d)
+mine_more a b c d e p q = p ∙ (ap (λ xs. xs ++ d) q ∙ append_assoc a b d)
+
+-- no other pass yet
+pub shares_none : (v : Pass) → HasShares v v []
+shares_none v = record { mine = sym (append-nil v.mine); saw = tt; longer = prefix_self v.seen }
+
+-- one more, which was joined
+pub shares_more : (v u back w : Pass) (ps : List Pass) → HasJoined u back w → HasShares v u ps → HasShares v w (back ∷ ps)
+shares_more v u back w ps joined h = record {
+  mine = mine_more v.mine (shares_of ps) u.mine back.mine w.mine joined.mine h.mine;
+  saw = (joined.longer.1, saw_on u.seen w.seen joined.longer.0 ps h.saw);
+  longer = prefix_trans v.seen u.seen w.seen h.longer joined.longer.0;
+}
+
+-- the front of shares has the entries that a pass had before it was split
+pub shares_of_whole : (v kept own w : Pass) (ps : List Pass) → IsCut v kept own → HasShares kept w ps → HasShares v w ps
+shares_of_whole v kept own w ps cut h = record {
+  mine = h.mine ∙ ap (λ xs. xs ++ shares_of ps) cut.mine.0;
+  saw = h.saw;
+  longer = subst (λ s. IsPrefix s w.seen) cut.seen.0 h.longer;
+}
+
+-- a pass that is split, used on both sides, and joined again
+pub later_joined : (v kept own u back w : Pass) → IsCut v kept own → IsLater kept u → IsLater own back → HasJoined u back w → IsLater v w
+later_joined v kept own u back w cut p q joined = record {
+  seen = prefix_trans v.seen u.seen w.seen (subst (λ s. IsPrefix s u.seen) cut.seen.0 p.seen) joined.longer.0;
+  mine = (let r = subst (λ s. IsPrefix s u.mine) cut.mine.0 p.mine in (r.0 ++ back.mine, sym (append_assoc v.mine r.0 back.mine) ∙ (ap (λ xs. xs ++ back.mine) r.1 ∙ sym joined.mine)));
+  parts = omega (arith, joined.parts, p.parts, q.parts, cut.parts.0, cut.parts.1);
+}
+
+-- no mover yet, and no planner
+pub run_alone : (Did : Pass → Pass → Type 0) (file : Meaning) (v w : Pass) (others : List Copies) → Did v w → HasRun Did file v w others others 0
+run_alone Did file v w others d = record {
+  begun = v;
+  same = refl;
+  front = w;
+  did = d;
+  movers = record { movers = []; others = others; are = tt; count_is = refl; old_are = refl; new_are = refl; shares = shares_none w };
+}
+
+pub run_all_alone : (Did : Pass → Pass → Type 0) (file : Meaning) (v w : Pass) (old new : List Copies) (movers : ℕ) → HasRun Did file v w old new movers → HasRunAll Did file v w old new movers 0
+run_all_alone Did file v w old new movers r = record { between = w; run = r; planners = record { planners = []; are = tt; count_is = refl; shares = shares_none w } }
+
+module _ (Did : Pass → Pass → Type 0) (file : Meaning) (v kept own u back w : Pass) (cut : IsCut v kept own) (joined : HasJoined u back w) where
+  -- one mover more
+  pub run_more : (old new : List Copies) (k l : Copies) (n m : ℕ) → m ≡ suc n → HasRun Did file kept u old new n → HasMovedOnce file own back k l → HasRun Did file v w (k ∷ old) (l ∷ new) m
+  run_more old new k l n m e r moved =
+      let one : Mover = record { given = own; back = back; old = k; new = l; end = moved.0 } in
+      record {
+        begun = r.begun;
+        same = r.same ∙ cut.mine.0;
+        front = r.front;
+        did = r.did;
+        movers = record {
+          movers = one ∷ r.movers.movers;
+          others = r.movers.others;
+          are = (record { fresh = cut.mine.1; moved = moved.1 }, r.movers.are);
+          count_is = ap suc r.movers.count_is ∙ sym e;
+          old_are = ap (λ (xs : List Copies). k ∷ xs) r.movers.old_are;
+          new_are = ap (λ (xs : List Copies). l ∷ xs) r.movers.new_are;
+          shares = shares_more r.front u back w (map (λ (x : Mover). x.back) r.movers.movers) joined r.movers.shares;
+        };
+      }
+
+  -- one planner more
+  pub run_all_more : (old new : List Copies) (movers n m : ℕ) → m ≡ suc n → HasRunAll Did file kept u old new movers n → HasPlannedOnce file own back → HasRunAll Did file v w old new movers m
+  run_all_more old new movers n m e r planned =
+      let one : Planner = record { given = own; back = back; end = planned.0 } in
+      record {
+        between = r.between;
+        run = record { begun = r.run.begun; same = r.run.same ∙ cut.mine.0; front = r.run.front; did = r.run.did; movers = r.run.movers };
+        planners = record {
+          planners = one ∷ r.planners.planners;
+          are = (record { fresh = cut.mine.1; planned = planned.1 }, r.planners.are);
+          count_is = ap suc r.planners.count_is ∙ sym e;
+          shares = shares_more r.between u back w (map (λ (x : Planner). x.back) r.planners.planners) joined r.planners.shares;
+        };
+      }
+
+-- the first of a list was taken away
+pub first_taken : {X : Type 0} (xs ys : List X) (x : X) → 0 < length xs → x ≡ slice_index_or xs 0 x → ys ≡ remove xs 0 → xs ≡ x ∷ ys
+first_taken {X} [] ys x p v r = absurd (omega (arith, p))
+first_taken {X} (z ∷ xs) ys x p v r = ap (λ (h : X). h ∷ xs) (sym v) ∙ ap (λ (t : List X). x ∷ t) (sym r)

@@ -1,0 +1,3 @@
+pub mod Crews
+pub mod Closing
+pub mod Sharing

@@ -1,0 +1,54 @@
+-- The journal of a shared book.
+use Rattle.std.proofs.Common.{◌≡◌, ◌≤◌, ◌⊎◌, inl, inr, ℕ, ◌+◌, true, List, [], ◌∷◌, ◌++◌, length, refl, ap, sym, ◌∙◌, subst, arith}
+use Rattle.std.specs.List.{list_any}
+use Rattle.std.specs.Prelude.{Option}
+use mathlib.Core.List.{IsPrefix}
+use Rattle.std.proofs.lemmas.Bool.{cases_lt}
+use Rattle.cc_base.specs.Outside.{HasRisen}
+use Rattle.cluster_json.specs.File.{Meaning}
+use Rattle.control_core.specs.Books.{BookView}
+use Rattle.core_laws.specs.Events.{is_close}
+use Rattle.core_terms.specs.declared.events.Event.{Event}
+use Rattle.mover_rounds.specs.Made.{Copies}
+use Rattle.mover_rounds.specs.Owned.{IsSince}
+use Rattle.mover_rounds.proofs.Prefixes.{prefix_trans}
+use Rattle.rest_session.specs.declared.session.LinkEnd.{LinkEnd}
+use Rattle.turn_book.specs.Known.{IsWhole}
+use Rattle.turn_book.specs.Rule.{once_below, times}
+use Rattle.live_service.specs.Fronts.{HasServedAll}
+use Rattle.live_service.specs.Live.{AreAllOf, IsShared}
+use Rattle.live_service.specs.Workers.{HasRunAll, Pass}
+use Rattle.live_service.proofs.Closing.{any_in, was_asked}
+
+-- a whole list of entries is just the journal of a book that was empty
+pub all_of : {A : Type 0} (b c : BookView A) (w : Pass) → b.journal ≡ [] → IsWhole (λ x. x.file) (λ x. x.journal) (λ x. x.failures) b w c → AreAllOf c.journal w.mine
+all_of b c w empty whole = record {
+  each_once = λ x. let h = subst (λ (j : List Event). times x w.mine + once_below x (length j) ≡ once_below x (length c.journal)) empty (whole.each_once x) in omega (arith, h);
+  placed = whole.placed;
+}
+
+pub shared_by : {A : Type 0} (Did : Pass → Pass → Type 0) (b c : BookView A) (given w : Pass) (old new : List Copies) (movers planners : ℕ) → b.journal ≡ [] → given.mine ≡ [] → HasRunAll Did b.file given w old new movers planners
+    → IsWhole (λ x. x.file) (λ x. x.journal) (λ x. x.failures) b w c → IsShared Did b c old new movers planners
+shared_by Did b c given w old new movers planners empty fresh run whole = record { given = given; fresh = fresh; back = w; run = run; file_is = whole.opening_is; shares = all_of b c w empty whole; saw = whole.seen }
+
+-- Close stands in the journal of a session that was shared
+pub is_closed : {A : Type 0} (b c : BookView A) (old new : List Copies) (movers planners : ℕ) (file : Meaning) (k l : Copies) (left was now : Option (List ℕ)) (end : LinkEnd)
+    → IsShared (λ v w. HasServedAll file v w k l left was now end) b c old new movers planners → list_any is_close c.journal ≡ true
+is_closed b c old new movers planners file k l left was now end h =
+    let r = h.run.run in
+    let first = prefix_trans r.front.seen h.run.between.seen h.back.seen r.movers.shares.longer h.run.planners.shares.longer in
+    any_in r.front.seen c.journal (prefix_trans r.front.seen h.back.seen c.journal first h.saw) (was_asked r.did.served r.front r.did.closed)
+
+-- the same of a book that the turn was made with
+pub shared_from : {A : Type 0} (Did : Meaning → Pass → Pass → Type 0) (start b c : BookView A) (given w : Pass) (old new : List Copies) (movers planners : ℕ) → start ≡ b → b.journal ≡ [] → given.mine ≡ []
+    → HasRunAll (Did start.file) start.file given w old new movers planners → IsWhole (λ x. x.file) (λ x. x.journal) (λ x. x.failures) start w c → IsShared (Did b.file) b c old new movers planners
+shared_from {A} Did start b c given w old new movers planners same empty fresh run whole =
+    subst (λ (x : BookView A). IsShared (Did x.file) x c old new movers planners) same
+    (shared_by (Did start.file) start c given w old new movers planners (subst (λ (x : BookView A). x.journal ≡ []) (sym same) empty) fresh run whole)
+
+-- a fault behind which a settled book stands was late, unless the number of its faults is the greatest
+pub is_late : {A : Type 0} (faults : A → ℕ) (b c : BookView A) → b.settled ≡ true → IsSince faults b c → HasRisen b.failures c.failures → (1 ≤ c.late) ⊎ (18446744073709551615 ≤ c.failures)
+is_late faults b c settled since risen = elim (cases_lt b.failures c.failures) [
+  | inl m ↦ inl (since.late settled m)
+  | inr m ↦ inr (omega (arith, m, risen))
+]

@@ -1,0 +1,3 @@
+pub mod Workers
+pub mod Fronts
+pub mod Live

@@ -1,0 +1,92 @@
+-- The workers that run while a front serves: what each of them made.
+use Rattle.std.specs.Prelude.{◌≡◌, ℕ, List, [], ◌∷◌, ◌++◌, length, map}
+use Rattle.std.specs.List.{AllByRecursion}
+use mathlib.Core.List.{IsPrefix}
+use Rattle.cluster_json.specs.File.{Meaning}
+use Rattle.core_terms.specs.declared.events.Event.{Event}
+use Rattle.mover_rounds.specs.Made.{Copies}
+use Rattle.mover_workers.specs.Callers.{known_by_pass}
+use Rattle.mover_workers.specs.Loops.{HasMoved, HasPlanned}
+use Rattle.mover_workers.specs.declared.loops.LoopEnd.{LoopEnd}
+use Rattle.turn_book.specs.Known.{Known as PassView}
+
+-- what a pass of a book's turn knows
+abbrev pub Pass : Type 0
+Pass = PassView Meaning Event
+
+-- a mover: the pass that it was given and the one that it gave back, its copier's copies before and after, and how its loop ended
+pub record Mover : Type 0 where
+  pub given : Pass
+  pub back : Pass
+  pub old : Copies
+  pub new : Copies
+  pub end : LoopEnd
+
+-- it began without an entry, and its entries are a mover's rounds
+pub record IsMover (file : Meaning) (m : Mover) : Type 0 where
+  pub fresh : m.given.mine ≡ []
+  pub moved : HasMoved (known_by_pass file m.given) (known_by_pass file m.back) m.old m.new m.end
+
+-- a planner: its passes, and how its loop ended
+pub record Planner : Type 0 where
+  pub given : Pass
+  pub back : Pass
+  pub end : LoopEnd
+
+-- it began without an entry, and its entries are a planner's rounds
+pub record IsPlanner (file : Meaning) (p : Planner) : Type 0 where
+  pub fresh : p.given.mine ≡ []
+  pub planned : HasPlanned (known_by_pass file p.given) (known_by_pass file p.back) p.end
+
+-- the entries of passes with their places, the last pass first
+abbrev pub shares_of : List Pass → List (ℕ × Event)
+shares_of [] = []
+shares_of (p ∷ ps) = shares_of ps ++ p.mine
+
+-- what each of these passes saw begins the history
+abbrev pub AllSaw : List Event → List Pass → Type 0
+AllSaw history passes = AllByRecursion (λ p. IsPrefix p.seen history) passes
+
+-- a pass that was behind a front's has its entries, and then those of these passes, each of which saw no more than it
+pub record HasShares (front back : Pass) (passes : List Pass) : Type 0 where
+  pub mine : back.mine ≡ front.mine ++ shares_of passes
+  pub saw : AllSaw back.seen passes
+  pub longer : IsPrefix front.seen back.seen
+
+-- a mover's loop was made once, and a planner's
+abbrev pub HasMovedOnce : Meaning → Pass → Pass → Copies → Copies → Type 0
+HasMovedOnce file v w k l = (end : LoopEnd) × HasMoved (known_by_pass file v) (known_by_pass file w) k l end
+
+abbrev pub HasPlannedOnce : Meaning → Pass → Pass → Type 0
+HasPlannedOnce file v w = (end : LoopEnd) × HasPlanned (known_by_pass file v) (known_by_pass file w) end
+
+-- so many movers, each with its copier in their order; the other copiers made nothing
+pub record HasMovers (file : Meaning) (front back : Pass) (old new : List Copies) (count : ℕ) : Type 0 where
+  pub movers : List Mover
+  pub others : List Copies
+  pub are : AllByRecursion (IsMover file) movers
+  pub count_is : length movers ≡ count
+  pub old_are : old ≡ map (λ m. m.old) movers ++ others
+  pub new_are : new ≡ map (λ m. m.new) movers ++ others
+  pub shares : HasShares front back (map (λ m. m.back) movers)
+
+-- so many planners
+pub record HasPlanners (file : Meaning) (front back : Pass) (count : ℕ) : Type 0 where
+  pub planners : List Planner
+  pub are : AllByRecursion (IsPlanner file) planners
+  pub count_is : length planners ≡ count
+  pub shares : HasShares front back (map (λ p. p.back) planners)
+
+-- what a front did with a pass like the one that was given, and beside it so many movers
+pub record HasRun (Did : Pass → Pass → Type 0) (file : Meaning) (given back : Pass) (old new : List Copies) (n : ℕ) : Type 0 where
+  pub begun : Pass
+  pub same : begun.mine ≡ given.mine
+  pub front : Pass
+  pub did : Did begun front
+  pub movers : HasMovers file front back old new n
+
+-- and so many planners
+pub record HasRunAll (Did : Pass → Pass → Type 0) (file : Meaning) (given back : Pass) (old new : List Copies) (n m : ℕ) : Type 0 where
+  pub between : Pass
+  pub run : HasRun Did file given between old new n
+  pub planners : HasPlanners file between back m

@@ -1,0 +1,39 @@
+// The requests of a link over a shared book.
+ghost use Rattle.std.specs.Prelude.{◌≡◌, ◌≤◌};
+ghost use Rattle.cc_base.specs.Outside.{HasRisen};
+ghost use Rattle.mover_rounds.specs.Made.{copier_of};
+ghost use Rattle.mover_workers.specs.Callers.{Belongs, IsLater, known_by_pass};
+ghost use Rattle.rest_session.specs.Answered.{HasServed};
+
+use cc_base::Link;
+use cluster_gate::{Admin, Copier};
+use control_core::Book;
+use mover_workers::Caller;
+use rest_session::{LinkEnd, serve};
+use std::alloc::Global;
+use std::sync::Wait;
+use turn_book::{Pass, Turn};
+
+/// Answers the requests of a link in their order, each by the reply to its own entries, until the link ends. The pass comes back with
+/// these entries.
+pub fn serve_link<A: Admin, K: Copier, L: Link, R: Wait>(
+    rt: &R,
+    alloc: Global,
+    turn: &Turn<Book<A>>,
+    pass: Pass<Book<A>>,
+    copier: &mut K,
+    link: &mut L,
+) -> (Pass<Book<A>>, LinkEnd)
+    requires own { Belongs turn.now pass }
+    ensures own { Belongs turn.now result.0 }
+    ensures later { IsLater pass result.0 }
+    ensures served { HasServed (known_by_pass turn.now.start.file pass) (known_by_pass turn.now.start.file result.0) (copier_of K.copies K.faults copier.old) (copier_of K.copies K.faults copier.new) (L.left link.old) (L.written link.old) (L.written link.new) result.1 }
+    ensures source { L.Source.faults link.old ≤ L.Source.faults link.new }
+    ensures sink { L.Sink.faults link.old ≤ L.Sink.faults link.new }
+    ensures read_fault { result.1 ≡ LinkEnd.ReadFault → HasRisen (L.Source.faults link.old) (L.Source.faults link.new) }
+    ensures write_fault { result.1 ≡ LinkEnd.WriteFault → HasRisen (L.Sink.faults link.old) (L.Sink.faults link.new) }
+{
+    let mut caller = Caller::new(rt, turn, pass);
+    let end = serve(alloc, &mut caller, copier, link);
+    (caller.into_pass(), end)
+}
