@@ -1,3 +1,4 @@
 pub mod Crews
 pub mod Closing
 pub mod Sharing
+pub mod Unclosed

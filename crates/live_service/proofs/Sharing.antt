@@ -47,8 +47,8 @@ shared_from {A} Did start b c given w old new movers planners same empty fresh r
     (shared_by (Did start.file) start c given w old new movers planners (subst (λ (x : BookView A). x.journal ≡ []) (sym same) empty) fresh run whole)
 
 -- a fault behind which a settled book stands was late, unless the number of its faults is the greatest
-pub is_late : {A : Type 0} (faults : A → ℕ) (b c : BookView A) → b.settled ≡ true → IsSince faults b c → HasRisen b.failures c.failures → (1 ≤ c.late) ⊎ (18446744073709551615 ≤ c.failures)
-is_late faults b c settled since risen = elim (cases_lt b.failures c.failures) [
-  | inl m ↦ inl (since.late settled m)
+pub is_late : {A : Type 0} (faults : A → ℕ) (o b c : BookView A) → b ≡ record o { settled = true } → IsSince faults b c → HasRisen b.failures c.failures → (1 ≤ c.late) ⊎ (18446744073709551615 ≤ c.failures)
+is_late faults o b c same since risen = elim (cases_lt b.failures c.failures) [
+  | inl m ↦ inl (since.late (ap (λ x. x.settled) same) m)
   | inr m ↦ inr (omega (arith, m, risen))
 ]

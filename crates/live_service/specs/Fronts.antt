@@ -36,6 +36,12 @@ pub record HasServedAll (file : Meaning) (v w : Pass) (k l : Copies) (left old n
   pub answered : HasServed (known_by_pass file v) (known_by_pass file served) k l left old new end
   pub closed : IsClosed served w
 
+-- the share of a session: the requests of a link were answered, and then the one Close of the journal was asked
+pub record IsSessionShare (file : Meaning) (v w : Pass) (k l : Copies) (left old new : Option (List ℕ)) (end : LinkEnd) : Type 0 where
+  pub served : Pass
+  pub answered : HasServed (known_by_pass file v) (known_by_pass file served) k l left old new end
+  pub closed : HasClosed served w
+
 -- the counts of a link's failed reads and writes don't fall, and an end by a fault has its cause
 pub record HasLinkCause (in_before in_now out_before out_now : ℕ) (end : LinkEnd) : Type 0 where
   pub source : in_before ≤ in_now

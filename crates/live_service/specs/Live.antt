@@ -8,7 +8,7 @@ use Rattle.mover_rounds.specs.Exact.{HasDrainedAlone}
 use Rattle.mover_rounds.specs.Owned.{known_by_owner}
 use Rattle.rest_session.specs.declared.whole.SessionEnd.{SessionEnd}
 use Rattle.turn_book.specs.Rule.{ArePlaced, once_below, times}
-use Rattle.live_service.specs.Fronts.{HasServedAll}
+use Rattle.live_service.specs.Fronts.{IsSessionShare}
 use Rattle.live_service.specs.Workers.{HasRunAll, Pass}
 
 -- these entries, each at its place, are just those of the journal
@@ -27,11 +27,11 @@ pub record IsShared {A : Type 0} (Did : Pass → Pass → Type 0) (b c : BookVie
   pub shares : AreAllOf c.journal back.mine
   pub saw : IsPrefix back.seen c.journal
 
--- a live session: the front answered the requests of a link and then asked Close, and behind the shares of all come the rounds of a drain
+-- a live session: the front answered the requests of a link and then asked Close, which no other actor did; behind the shares of all come the rounds of a drain
 pub record IsLiveSession {A : Type 0} (b c : BookView A) (old new : List Copies) (movers planners : ℕ) (k l : Copies) (left was now : Option (List ℕ)) (end : SessionEnd) : Type 0 where
   pub closed : BookView A
   pub between : Copies
-  pub shared : IsShared (λ v w. HasServedAll b.file v w k between left was now end.link) b closed old new movers planners
+  pub shared : IsShared (λ v w. IsSessionShare b.file v w k between left was now end.link) b closed old new movers planners
   pub settled : BookView A
   pub settled_is : settled ≡ record closed { settled = true }
   pub drained : HasDrainedAlone (known_by_owner settled) (known_by_owner c) between l end.drain

@@ -28,13 +28,13 @@ use Rattle.rest_session.specs.declared.session.LinkEnd.{LinkEnd}
 use Rattle.rest_session.proofs.Calling.{once_is}
 
 -- the entry isn't Close, and none of these entries is
-abbrev IsOpen : Entry → Type 0
+abbrev pub IsOpen : Entry → Type 0
 IsOpen x = is_close x.event ≡ false
 
-abbrev AreOpen : List Entry → Type 0
+abbrev pub AreOpen : List Entry → Type 0
 AreOpen made = AllByRecursion IsOpen made
 
-both_open : (a b : List Entry) → AreOpen a → AreOpen b → AreOpen (a ++ b)
+pub both_open : (a b : List Entry) → AreOpen a → AreOpen b → AreOpen (a ++ b)
 both_open [] b h k = k
 both_open (x ∷ a) b h k = (h.0, both_open a b h.1 k)
 
@@ -64,7 +64,7 @@ module _ (r : Rules) (s : List Event) where
   end_open idle what after m h = absurd h
   end_open look what after m h = absurd h
 
-  plan_open : (st : Standing) (m : List Entry) → IsPlanRound r s st m → AreOpen m
+  pub plan_open : (st : Standing) (m : List Entry) → IsPlanRound r s st m → AreOpen m
   plan_open done [] h = absurd h
   plan_open done (x ∷ xs) h = (ap is_close h.0, end_open done (reply_to r x) (through x) xs h.2)
   plan_open undone [] h = absurd h
@@ -75,7 +75,7 @@ module _ (r : Rules) (s : List Event) where
   plan_open look (x ∷ []) h = (ap is_close h.0, tt)
   plan_open look (x ∷ y ∷ xs) h = (ap is_close h.0, end_open look (reply_to r x) (through x) (y ∷ xs) h.2)
 
-  work_open : (st : Standing) (m : List Entry) → IsWorkRound r s st m → AreOpen m
+  pub work_open : (st : Standing) (m : List Entry) → IsWorkRound r s st m → AreOpen m
   work_open done [] h = absurd h
   work_open done (x ∷ xs) h = (ap is_close h.0, end_open done (reply_to r x) (through x) xs h.2)
   work_open undone [] h = absurd h
@@ -139,7 +139,7 @@ module _ (r : Rules) (s : List Event) where
   called_open means (told.Pump y) m c h = done_open (asked_by h.0) (told.Pump y) m c (asked_open h.0) h.2
   called_open means (told.Stopped y) m c h = done_open (asked_by h.0) (told.Stopped y) m c (asked_open h.0) h.2
 
-  pieces_open : (ps : List Piece) → AllByRecursion (IsPiece r s) ps → AreOpen (in_order (λ p. p.made) ps)
+  pub pieces_open : (ps : List Piece) → AllByRecursion (IsPiece r s) ps → AreOpen (in_order (λ p. p.made) ps)
   pieces_open [] h = tt
   pieces_open (p ∷ ps) h = both_open p.made (in_order (λ x. x.made) ps) (called_open (meaning p.raw) p.told_is p.made p.copies h.0.0) (pieces_open ps h.1)
 
