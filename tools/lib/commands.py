@@ -86,12 +86,12 @@ OPTIONS = {
         Option("--trace", "", "writes the trace in place of the plan or the failure", "the plan, or the failure"),
         Option(
             "--movers",
-            "0",
-            "how many movers work beside the requests: today none, and no other number is taken. `POST /cluster/pump` has the "
-            "service work",
+            "N",
+            "how many movers carry out work beside the requests, each on a thread of its own, 0 to 64. With none, "
+            "`POST /cluster/pump` has the service work",
             "0",
         ),
-        Option("--planners", "0", "the same of planners", "0"),
+        Option("--planners", "N", "how many planners plan beside the requests, each on a thread of its own, 0 to 4", "0"),
     )
 }
 
@@ -120,8 +120,8 @@ COMMANDS = (
         "session",
         ("FILE",),
         ("--movers", "--planners"),
-        "reads HTTP requests from the input and writes their replies to the output, over an in-process cluster; at the input's end, "
-        "or behind a request that closes, it carries out what is left",
+        "reads HTTP requests from the input and writes their replies to the output, over an in-process cluster that movers and planners "
+        "may share; at the input's end, or behind a request that closes, it carries out what is left",
         writes_as_it_goes=True,
     ),
 )

@@ -2,3 +2,5 @@ pub mod Ending
 pub mod Evacuated
 pub mod Made
 pub mod Traces
+pub mod Inserted
+pub mod Crowds

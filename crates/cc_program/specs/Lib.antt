@@ -7,3 +7,4 @@ pub mod Input
 pub mod Planned
 pub mod Runs
 pub mod Sessions
+pub mod Lives

@@ -52,7 +52,8 @@ fn refused(alloc: Global, refusal: &FileRefusal) -> LoadFault
     }
 }
 
-fn load<F: Files>(alloc: Global, files: &mut F, name: &str) -> Result<ClusterFile, LoadFault>
+/// Loads a cluster file.
+pub fn load<F: Files>(alloc: Global, files: &mut F, name: &str) -> Result<ClusterFile, LoadFault>
     ensures later { F.faults files.old ≤ F.faults files.new }
     ensures loads { Loads (F.contents files.old name.now) (F.faults files.old) (F.faults files.new) result }
     ensures file { IfOk result IsFile }
