@@ -257,7 +257,7 @@ class Tools(unittest.TestCase):
         rows = [
             (["pl"], "plan"),
             (["--"], "--help --version"),
-            (["help", ""], "apply check plan session"),
+            (["help", ""], "apply check gen plan session"),
             (["check", "examples/three-brokers.t"], "examples/three-brokers.trace.json"),
             (["check", "a", "examples/three-brokers.t"], "examples/three-brokers.trace.json"),
             (["plan", "a", "--"], "--excluded-topics --goals --skip-hard-goal-check --trace"),

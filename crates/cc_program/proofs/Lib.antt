@@ -1,4 +1,5 @@
 pub mod Ending
 pub mod Evacuated
 pub mod Made
+pub mod Ranges
 pub mod Traces
