@@ -3,6 +3,7 @@ pub mod Checked
 pub mod Commands
 pub mod Edges
 pub mod Ends
+pub mod Generated
 pub mod Input
 pub mod Planned
 pub mod Runs

@@ -9,6 +9,7 @@ ghost use Rattle.cc_program.specs.Lives.{IsLeft, IsOver, Leaves, live_command};
 ghost use Rattle.cc_program.specs.declared.ends.End.{End};
 ghost use Rattle.mover_rounds.specs.Made.{copier_of};
 
+use crate::commands::Request;
 use crate::ends::{End, conclude};
 use crate::quiet::{LoadFault, load};
 use crate::sessions::ended_by;
@@ -199,8 +200,10 @@ fn run<
     if copiers.len() <= request.workers.movers as usize {
         return unbegun(End::Usage, admin, copiers, console);
     }
-    match load(alloc, files, &request.file) {
-        Ok(file) => begin(rt, alloc, file, admin, copiers, request.workers, console),
+    let LiveRequest { file, workers } = request;
+    let source = Request::Session { file };
+    match load(alloc, files, &source) {
+        Ok(file) => begin(rt, alloc, file, admin, copiers, workers, console),
         Err(LoadFault::Refused(line)) => unbegun(End::Refused(line), admin, copiers, console),
         Err(LoadFault::Failed) => unbegun(End::FileFault, admin, copiers, console),
         Err(LoadFault::Memory) => unbegun(End::Memory, admin, copiers, console),

@@ -11,6 +11,7 @@ mod applies;
 mod checks;
 mod commands;
 mod ends;
+mod gens;
 mod input;
 mod lives;
 mod planning;
