@@ -1,4 +1,5 @@
-// A book of a cluster in memory. The tests forget their books and replies, and let none go on more paths than one: each would be proved.
+// A book of a cluster in memory. Where a call fails the tests panic, in place of `?`, so that a book is dropped at one place alone: the
+// proof of each drop is long.
 use cluster_gate::MemoryCluster;
 use cluster_json::read_cluster;
 use control_core::Book;

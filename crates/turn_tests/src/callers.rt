@@ -4,7 +4,6 @@ use crate::marks::{Mark, event_of, events_of, marks_of};
 use crate::texts::{text_of, texts_of};
 use cluster_gate::MemoryCluster;
 use std::alloc::Global;
-use std::mem::forget;
 use std::process::Abort;
 use std::sync::Wait;
 use std::thread::Threads;
@@ -53,9 +52,7 @@ fn replayed<R: Abort>(rt: &R, alloc: Global, journal: &[Mark]) -> Vec<String> {
     for mark in journal {
         let reply = reply_to(rt, &mut book, event_of(rt, alloc, *mark));
         texts.push(text_of(rt, alloc, &reply)).expect(rt, "memory");
-        forget(reply);
     }
-    forget(book);
     texts
 }
 
@@ -96,6 +93,5 @@ fn two_callers_make_one_history(rt: HostRuntime) {
     for _ in 0..50 {
         let shared = asked_by_both(&rt, alloc);
         expect_one_history(&rt, alloc, &shared);
-        forget(shared);
     }
 }

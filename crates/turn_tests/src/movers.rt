@@ -8,7 +8,6 @@ use cluster_gate::Copier;
 use core_terms::{Event, Reply, Shown};
 use mover_workers::{LoopEnd, mover_loop};
 use std::alloc::Global;
-use std::mem::forget;
 use std::process::Abort;
 use std::sync::Wait;
 use std::thread::{Threads, join};
@@ -50,8 +49,8 @@ fn run_mover<R: Wait>(
 fn closing_book<R: Abort>(rt: &R, alloc: Global) -> MemoryBook {
     let mut book = book_of(rt, alloc, FOUR);
     let ask = removal(rt, alloc, &[0, 1], false);
-    forget(reply_to(rt, &mut book, Event::Submit(ask, None)));
-    forget(reply_to(rt, &mut book, Event::Close));
+    reply_to(rt, &mut book, Event::Submit(ask, None));
+    reply_to(rt, &mut book, Event::Close);
     book
 }
 
@@ -115,5 +114,4 @@ fn two_movers_copy_at_once(rt: HostRuntime) {
     expect_no_failure(&rt, book.journal());
     expect_completed(&rt, &mut book);
     expect_new_lists(&rt, &book);
-    forget(book);
 }
