@@ -1,5 +1,5 @@
 -- A copier that is taken out of a list, and put back.
-use Rattle.std.proofs.Common.{◌≡◌, ◌<◌, ℕ, true, false, zero, suc, List, [], ◌∷◌, length, map, slice_index_or, refl, ap, sym, ◌∙◌, subst, arith, inr}
+use Rattle.std.proofs.Common.{◌≡◌, ◌<◌, ℕ, true, false, zero, suc, List, [], ◌∷◌, length, map, slice_index_or, refl, ap, sym, ◌∙◌, arith}
 use Rattle.std.specs.List.{insert, remove}
 use Rattle.std.specs.Prelude.{Option, Some, None, IfSome, IsSome}
 use Rattle.cluster_json.specs.File.{Meaning}

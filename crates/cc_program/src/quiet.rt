@@ -72,7 +72,11 @@ fn source<F: Files>(alloc: Global, files: &mut F, request: &Request) -> Result<V
 }
 
 /// Loads the cluster that a request is about.
-pub fn load<F: Files>(alloc: Global, files: &mut F, request: &Request) -> Result<ClusterFile, LoadFault>
+pub fn load<F: Files>(
+    alloc: Global,
+    files: &mut F,
+    request: &Request,
+) -> Result<ClusterFile, LoadFault>
     ensures later { F.faults files.old ≤ F.faults files.new }
     ensures loads { Loads (F.contents files.old) (asked request.now) (F.faults files.old) (F.faults files.new) result }
     ensures file { IfOk result IsFile }

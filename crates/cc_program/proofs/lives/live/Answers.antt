@@ -1,4 +1,4 @@
-use Rattle.std.proofs.Common.{rules, map, inr, refl}
+use Rattle.std.proofs.Common.{rules, map, inr}
 use Rattle.mover_rounds.specs.Made.{copier_of}
 use Rattle.cc_program.proofs.Inserted.{put_in, taken_out}
 use Rattle.cc_program.proofs.lives.live.Goals as goal
