@@ -5,10 +5,11 @@ _sumpharu() {
         [plan]='--goals --skip-hard-goal-check --excluded-topics --trace'
         [apply]='--goals --skip-hard-goal-check --excluded-topics'
         [check]='--goals --skip-hard-goal-check --excluded-topics'
+        [gen]='--brokers --partitions --goals --skip-hard-goal-check --file'
         [session]='--movers --planners'
     )
     if [ "$COMP_CWORD" -eq 1 ]; then
-        COMPREPLY=($(compgen -W "plan apply check session help --help --version" -- "$word"))
+        COMPREPLY=($(compgen -W "plan apply check gen session help --help --version" -- "$word"))
         return
     fi
     if [ "${COMP_WORDS[1]}" = help ]; then
@@ -20,7 +21,7 @@ _sumpharu() {
         return
     fi
     case ${COMP_WORDS[COMP_CWORD - 1]} in
-    --excluded-topics | --goals | --movers | --planners)
+    --brokers | --excluded-topics | --goals | --movers | --partitions | --planners)
         COMPREPLY=()
         return
         ;;

@@ -57,6 +57,7 @@ class End:
 OPERANDS = {
     "FILE": "the cluster file (docs/FORMATS.md), at most 64 MiB",
     "TRACE": "the trace, as docs/FORMATS.md says, at most 64 MiB",
+    "SEED": "the number that the cluster is made from, below 2147483648",
 }
 
 GOALS = ("--goals", "--skip-hard-goal-check")
@@ -83,15 +84,18 @@ OPTIONS = {
             "topics, parted by commas, of which no replica moves but off lost brokers; a name of no topic excludes nothing",
             "none",
         ),
+        Option("--brokers", "N", "how many brokers the cluster has, 1 to 200", "40"),
+        Option("--partitions", "N", "how many partitions it has, 0 to 10000", "2000"),
+        Option("--file", "", "writes the cluster file in place of the summary", "the summary"),
         Option("--trace", "", "writes the trace in place of the plan or the failure", "the plan, or the failure"),
         Option(
             "--movers",
-            "0",
-            "how many movers work beside the requests: today none, and no other number is taken. `POST /cluster/pump` has the "
-            "service work",
+            "N",
+            "how many movers carry out work beside the requests, each on a thread of its own, 0 to 64. With none, "
+            "`POST /cluster/pump` has the service work",
             "0",
         ),
-        Option("--planners", "0", "the same of planners", "0"),
+        Option("--planners", "N", "how many planners plan beside the requests, each on a thread of its own, 0 to 4", "0"),
     )
 }
 
@@ -117,11 +121,18 @@ COMMANDS = (
         "says whether a planner's trace is good for the file: `good`, or the first fault, its turn and action from 0, and its kind",
     ),
     Command(
+        "gen",
+        ("SEED",),
+        ("--brokers", "--partitions", *GOALS, "--file"),
+        "makes a cluster from a seed, plans it, and writes how many partitions change and each goal's measure before and after; or, with "
+        "--file, writes the cluster file",
+    ),
+    Command(
         "session",
         ("FILE",),
         ("--movers", "--planners"),
-        "reads HTTP requests from the input and writes their replies to the output, over an in-process cluster; at the input's end, "
-        "or behind a request that closes, it carries out what is left",
+        "reads HTTP requests from the input and writes their replies to the output, over an in-process cluster that movers and planners "
+        "may share; at the input's end, or behind a request that closes, it carries out what is left",
         writes_as_it_goes=True,
     ),
 )
@@ -137,11 +148,14 @@ ENDS = (
     End(0, ("plan",), "a plan was made", "its trace", NOTHING, only="with --trace"),
     End(0, ("apply",), "a plan was made and carried out", "the reassignment JSON of all lists", NOTHING),
     End(0, ("check",), "the trace is good", "good", NOTHING),
+    End(0, ("gen",), "a plan was made", "its summary", NOTHING),
+    End(0, ("gen",), "the cluster was made", "its file", NOTHING, only="with --file"),
     End(0, ("session",), "the input was read to its end or to a request that closes, and nothing is left to do", "the replies", NOTHING),
     End(2, NAMES, "the arguments are no command", NOTHING, "usage error"),
     End(3, LOADERS, "the cluster file was loaded and is refused", NOTHING, "cluster refused: FAULT"),
     End(4, ("plan", "apply"), "a hard goal fails, with the measure that is left", '{"failed":"GOAL","measure":"N"}', "hard goal failed: GOAL"),
     End(4, ("plan",), "a hard goal fails", "the trace up to there", "hard goal failed: GOAL", only="with --trace"),
+    End(4, ("gen",), "a hard goal fails", "the summary up to there", "hard goal failed: GOAL"),
     End(5, LOADERS, "a file can't be loaded: absent, unreadable, above 67,108,864 bytes", NOTHING, "file fault"),
     End(6, ("session",), "the input can't be read; what was left is carried out", "the replies so far", "read fault"),
     End(7, NAMES, "the output can't be written", "a prefix of the text", "write fault"),
@@ -159,5 +173,6 @@ EXAMPLES = (
     "plan examples/three-brokers.json --trace > trace.json",
     "apply examples/three-zones.json --goals RackAwareGoal --skip-hard-goal-check",
     "check examples/three-brokers.json examples/three-brokers.trace.json --goals RackAwareGoal --skip-hard-goal-check",
+    "gen 1 --brokers 3 --partitions 2",
     "session examples/two-brokers.json < examples/requests.http",
 )

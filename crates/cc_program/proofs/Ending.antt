@@ -1,9 +1,9 @@
 -- What an end says once what a command made is written.
 use Rattle.std.proofs.Common.{◌≡◌, ◌⊎◌, ◌∙◌, ◌≤◌, ap, inl, inr, ℕ, List, refl, arith}
-use Rattle.std.specs.Prelude.{Option, Some, None, IfSome, IfOk, Result, Ok, Err, ◌≢◌}
-use Rattle.cc_base.specs.Outside.{HasRisen, IsPrefixOut, appended, with_name}
+use Rattle.std.specs.Prelude.{Option, Some, IfSome, IfOk, Result, Ok, Err, ◌≢◌}
+use Rattle.cc_base.specs.Outside.{HasRisen, IsPrefixOut, appended}
 use Rattle.cluster_json.specs.File.{Meaning}
-use Rattle.cc_program.specs.Commands.{Asked, apply, check, command, file_of, plan, session}
+use Rattle.cc_program.specs.Commands.{Asked, apply, check, command, gen, plan, session, source_of, with_source}
 use Rattle.cc_program.specs.Edges.{Edge, IsSilent, Writes}
 use Rattle.cc_program.specs.Sessions.{DidSession, ended_by}
 use Rattle.mover_rounds.specs.declared.drains.DrainEnd.{DrainEnd}
@@ -27,6 +27,9 @@ done (check file trace ask) m e text _ h w = absurd h
 done (apply file ask) m e text end.Done h w = (text, h, w)
 done (apply file ask) m e text (end.GoalFailed line) h w = (text, h, w)
 done (apply file ask) m e text _ h w = absurd h
+done (gen seed brokers partitions file ask) m e text end.Done h w = (text, h, w)
+done (gen seed brokers partitions file ask) m e text (end.GoalFailed line) h w = (text, h, w)
+done (gen seed brokers partitions file ask) m e text _ h w = absurd h
 done (session file) m e text _ h w = absurd h
 
 -- a prefix of it is out
@@ -35,6 +38,7 @@ cut : (asked : Asked) (m : Meaning) (e : Edge) (text : List ℕ) (way : End) →
 cut (plan file trace ask) m e text way h r p = (text, way, h, r, p)
 cut (check file trace ask) m e text way h r p = (text, way, h, r, p)
 cut (apply file ask) m e text way h r p = (text, way, h, r, p)
+cut (gen seed brokers partitions file ask) m e text way h r p = (text, way, h, r, p)
 cut (session file) m e text way h r p = absurd h
 
 -- what was made is written
@@ -66,17 +70,15 @@ module _ (file : List ℕ) (m : Meaning) (e : Edge) where
 -- ---- a whole run
 
 module _ (words : List (List ℕ)) (asked : Asked) (means : command words ≡ Some asked) where
-  some_command : command words ≢ None
-  some_command = λ none. absurd cc
-
   -- the files' count before a command began is none of what it did
   did_same : (a : Asked) (e : Edge) (m : Meaning) (mid : ℕ) (way : End) → Did a m (record e { files_before = mid }) way → Did a m e way
   did_same (plan file trace ask) e m mid way h = h
   did_same (check file trace ask) e m mid way h = h
   did_same (apply file ask) e m mid way h = h
+  did_same (gen seed brokers partitions file ask) e m mid way h = h
   did_same (session file) e m mid way h = h
 
-  module _ (e : Edge) (m : Meaning) (meant : IfSome (e.told (file_of asked)) (λ bytes. Means bytes m)) (mid : ℕ) (later : e.files_before ≤ mid) where
+  module _ (e : Edge) (m : Meaning) (meant : IfSome (source_of e.told asked) (λ bytes. Means bytes m)) (mid : ℕ) (later : e.files_before ≤ mid) where
     answer : (way : End) → Did asked m (record e { files_before = mid }) way → Ran words e way
     answer way h = record { asked = asked; means = means; file = m; meant = meant; answered = did_same asked e m mid way h }
 
@@ -85,7 +87,7 @@ module _ (words : List (List ℕ)) (asked : Asked) (means : command words ≡ So
     ran end.Usage h = absurd h
     ran (end.Refused line) h = absurd h
     ran (end.GoalFailed line) h = answer (end.GoalFailed line) h
-    ran end.FileFault h = (some_command, omega (arith, h.0, later), h.1)
+    ran end.FileFault h = (record { asked = asked; means = means; has_file = h.0 }, omega (arith, h.1, later), h.2)
     ran end.ReadFault h = answer end.ReadFault h
     ran end.WriteFault h = answer end.WriteFault h
     ran end.NotDrained h = absurd h
@@ -95,13 +97,14 @@ module _ (words : List (List ℕ)) (asked : Asked) (means : command words ≡ So
     ran end.TraceRefused h = answer end.TraceRefused h
 
   -- the files that were loaded
-  all_files : (a : Asked) (old : Option (List (List ℕ))) → with_more (with_name old (file_of a)) a ≡ with_files old a
+  all_files : (a : Asked) (old : Option (List (List ℕ))) → with_more (with_source old a) a ≡ with_files old a
   all_files (plan file trace ask) old = refl
   all_files (check file trace ask) old = refl
   all_files (apply file ask) old = refl
+  all_files (gen seed brokers partitions file ask) old = refl
   all_files (session file) old = refl
 
-  module _ (old mid new : Option (List (List ℕ))) (first : mid ≡ with_name old (file_of asked)) where
+  module _ (old mid new : Option (List (List ℕ))) (first : mid ≡ with_source old asked) where
     all : new ≡ with_more mid asked → LoadsAll words old new
     all h = record { asked = asked; means = means; log = h ∙ (ap (λ log. with_more log asked) first ∙ all_files asked old) }
 

@@ -1,4 +1,7 @@
 pub mod Ending
 pub mod Evacuated
 pub mod Made
+pub mod Ranges
 pub mod Traces
+pub mod Inserted
+pub mod Crowds

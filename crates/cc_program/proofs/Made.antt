@@ -12,6 +12,7 @@ use Rattle.user_tasks.specs.declared.ask.Op.{Op}
 use Rattle.user_tasks.specs.declared.ask.Op.TheVariants as op
 use Rattle.cc_program.specs.Applied.{BeginsWithEvacuation, IsApplied, IsCarriedOut}
 use Rattle.cc_program.specs.Checked.{IsChecked}
+use Rattle.cc_program.specs.Generated.{IsGenerated, IsSummary, IsSummedUp}
 use Rattle.cc_program.specs.Input.{ClusterLists}
 use Rattle.cc_program.specs.Planned.{IsFailed, IsPlanned}
 use Rattle.cc_program.specs.declared.answers.Answer.{Answer}
@@ -42,6 +43,14 @@ module _ (file : ClusterLists) (goals : List GoalKind) where
     failed trace (Ok a) h = failed_one trace a.text.items a.end h
     failed trace (Err e) h = h
 
+    summed_one : (text : List ℕ) (e : End) → IsSummedUp failure text e → IsSummary file goals text e
+    summed_one text (end.GoalFailed line) h = record { failure = failure; failed = is; told = h }
+    summed_one text _ h = absurd h
+
+    pub summed : {E : Type 0} (r : Result Answer E) → IfOk r (λ a. IsSummedUp failure a.text.items a.end) → IfOk r (λ a. IsSummary file goals a.text.items a.end)
+    summed (Ok a) h = summed_one a.text.items a.end h
+    summed (Err e) h = h
+
     failed_apply_one : (text : List ℕ) (e : End) → IsFailed false failure text e → IsApplied file goals text e
     failed_apply_one text (end.GoalFailed line) h = record { failure = failure; failed = is; told = h }
     failed_apply_one text _ h = absurd h
@@ -58,6 +67,17 @@ module _ (file : ClusterLists) (goals : List GoalKind) where
     pub applied : {E : Type 0} (r : Result Answer E) → IfOk r (λ a. IsCarriedOut file plan.end a.text.items a.end) → IfOk r (λ a. IsApplied file goals a.text.items a.end)
     applied (Ok a) h = applied_one a.text.items a.end h
     applied (Err e) h = h
+
+  -- a summary is what `gen` makes where its cluster file isn't asked for
+  generated_one : (made text : List ℕ) (e : End) → IsSummary file goals text e → IsGenerated false made file goals text e
+  generated_one made text end.Done h = h
+  generated_one made text (end.GoalFailed line) h = (refl, h)
+  generated_one made text _ h = absurd h
+
+  pub summary_made : {E : Type 0} (made : List ℕ) (r : Result Answer E) → IfOk r (λ a. IsSummary file goals a.text.items a.end)
+      → IfOk r (λ a. IsGenerated false made file goals a.text.items a.end)
+  summary_made made (Ok a) h = generated_one made a.text.items a.end h
+  summary_made made (Err e) h = h
 
   -- what holds of the bytes that were loaded holds of those that are told
   check_told_one : (told : Option (List ℕ)) (bytes text : List ℕ) (e : End) → IfSome told (λ t. bytes ≡ t) → IsChecked (Some bytes) file goals text e → IsChecked told file goals text e

@@ -2,8 +2,9 @@
 ghost use Rattle.std.specs.Prelude.{◌≡◌, None, Some, map, string_bytes, IfErr, IfOk, IsSome};
 ghost use Rattle.command_words.specs.Meaning.{goals_told};
 ghost use Rattle.core_terms.specs.Asked.{goals_fault};
-ghost use Rattle.cc_program.specs.Commands.{asked, command, file_of, rebalance};
+ghost use Rattle.cc_program.specs.Commands.{asked, command, rebalance};
 
+use crate::gens::Recipe;
 use crate::planning::Planning;
 use command_words::{Command, Goals, WordsFault, read_words};
 use core_cases::goals_of;
@@ -32,24 +33,17 @@ pub enum Request {
         file: String,
         planning: Planning,
     },
+    /// Makes a cluster from a seed, and writes the summary of a plan for it.
+    Gen {
+        recipe: Recipe,
+        /// The cluster file itself is written.
+        whole: bool,
+        planning: Planning,
+    },
     /// Answers the requests of the input, with no movers and no planners of its own.
     Session {
         file: String,
     },
-}
-
-impl Request {
-    /// The name of the cluster file.
-    pub fn file(&self) -> &str
-        ensures { result.now ≡ file_of (asked self.now) }
-    {
-        match self {
-            Request::Plan { file, .. }
-            | Request::Check { file, .. }
-            | Request::Apply { file, .. }
-            | Request::Session { file } => file,
-        }
-    }
 }
 
 // A rebalance with these goals, unless their names are refused.
@@ -101,6 +95,18 @@ pub fn read_request(alloc: Global, words: &[String]) -> Result<Request, WordsFau
             file: options.file,
             planning: rebalance(alloc, options.goals, options.excluded_topics)?,
         }),
+        Command::Gen(options) => {
+            let recipe = Recipe {
+                seed: options.seed,
+                brokers: options.brokers,
+                partitions: options.partitions,
+            };
+            Ok(Request::Gen {
+                recipe,
+                whole: options.file,
+                planning: rebalance(alloc, options.goals, Vec::new(alloc))?,
+            })
+        }
         Command::Session(options) if options.workers.movers == 0 && options.workers.planners == 0 =>
             { Ok(Request::Session { file: options.file }) }
         _ => Err(WordsFault::Usage),

@@ -11,18 +11,25 @@ mod applies;
 mod checks;
 mod commands;
 mod ends;
+mod gens;
 mod input;
+mod lives;
 mod planning;
 mod plans;
 mod quiet;
 mod sessions;
 
 use cc_base::{Files, HostFiles, HostSink, HostSource, HostStream, Joined, Link, Sink};
+use cluster_gate::{MemoryCluster, MemoryCopier};
+use command_words::wants_live;
 use ends::{End, conclude};
+use lives::run_live;
+use load_model::Memory;
 use quiet::run_quiet;
 use std::alloc::Global;
 use std::io::ErrorKind;
 use std::process::ExitCode;
+use std::sync::Wait;
 use std::thread::Threads;
 use std::{env, io};
 
@@ -54,20 +61,54 @@ fn exit_code(status: u8) -> ExitCode
     ExitCode::from(status)
 }
 
+// As many copiers in memory as movers, links and the thread that serves may need at most.
+fn copiers(alloc: Global) -> Result<Vec<MemoryCopier>, Memory> {
+    let mut made = Vec::new(alloc);
+    for _ in 0..129u32 {
+        made.push(MemoryCopier::new(alloc))?;
+    }
+    Ok(made)
+}
+
+// Runs words that want a run with threads, over a cluster in memory.
+fn run_threads<R: Threads + Wait + Sync, F: Files, L: Link + Drop, O: Sink>(
+    rt: &R,
+    alloc: Global,
+    words: &[String],
+    files: &mut F,
+    console: L,
+    err: &mut O,
+) -> ExitCode
+    ensures { (end : End) × (exit_status result ≡ status_of end)
+        × IsTold (line_of end) (O.written err.old) (O.written err.new) (O.faults err.old) (O.faults err.new) }
+{
+    let Ok(copiers) = copiers(alloc) else {
+        return exit_code(conclude(err, &End::Memory));
+    };
+    let admin = MemoryCluster::new(alloc);
+    let ended = run_live(rt, alloc, words, files, err, admin, copiers, console);
+    exit_code(ended.status)
+}
+
 // Runs the words, if they can be had. The code is the status of how that ended, and the error stream has its line.
-fn run_words<R: Threads + Sync, F: Files, L: Link, O: Sink>(
+fn run_words<R: Threads + Wait + Sync, F: Files, L: Link + Drop, O: Sink>(
     rt: &R,
     alloc: Global,
     words: io::Result<Vec<String>>,
     files: &mut F,
-    console: &mut L,
+    mut console: L,
     err: &mut O,
 ) -> ExitCode
     ensures { (end : End) × (exit_status result ≡ status_of end)
         × IsTold (line_of end) (O.written err.old) (O.written err.new) (O.faults err.old) (O.faults err.new) }
 {
     match words {
-        Ok(words) => exit_code(run_quiet(rt, alloc, &words, files, console, err)),
+        Ok(words) => {
+            if wants_live(&words) {
+                return run_threads(rt, alloc, &words, files, console, err);
+            }
+            exit_code(run_quiet(rt, alloc, &words, files, &mut console, err))
+        }
         Err(e) => exit_code(conclude(err, &end_without_words(e.kind()))),
     }
 }
@@ -77,9 +118,9 @@ fn main(rt: HostRuntime) -> ExitCode {
     let mut files = HostFiles::new(rt);
     let input = HostSource::new(rt.stdin());
     let output = HostSink::new(HostStream::Out(rt.stdout()));
-    let mut console = Joined::new(input, output);
+    let console = Joined::new(input, output);
     let mut err = HostSink::new(HostStream::Err(rt.stderr()));
-    run_words(&rt, rt.alloc(), words, &mut files, &mut console, &mut err)
+    run_words(&rt, rt.alloc(), words, &mut files, console, &mut err)
 }
 
 #[cfg(test)]

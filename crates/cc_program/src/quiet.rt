@@ -1,5 +1,5 @@
 // The commands that wait for nobody.
-ghost use Rattle.std.specs.Prelude.{◌≡◌, ◌≢◌, ◌≤◌, ◌⊎◌, List, ℕ, map, Some, None, string_bytes, IfOk, IsErrOf, OnOk};
+ghost use Rattle.std.specs.Prelude.{◌≡◌, ◌≤◌, ◌⊎◌, List, ℕ, map, Some, None, string_bytes, IfOk, IfSome, IsErrOf, OnErr, OnOk};
 ghost use Rattle.cc_base.specs.Outside.{HasRisen, with_name};
 ghost use Rattle.cluster_json.specs.Faults.{Fault};
 ghost use Rattle.cluster_json.specs.Ranges.{IsFile};
@@ -7,11 +7,11 @@ ghost use Rattle.cluster_json.specs.Reading.{fault_of};
 ghost use Rattle.cluster_json.specs.Views.{file_seen};
 ghost use Rattle.core_terms.specs.Asked.{goals_of};
 ghost use Rattle.cc_program.specs.Checked.{IsChecked};
-ghost use Rattle.cc_program.specs.Commands.{Asked, AsksSession, IsInputKept, asked, command, file_of};
+ghost use Rattle.cc_program.specs.Commands.{Asked, AsksSession, HasFile, IsInputKept, asked, command, source_of, with_source};
 ghost use Rattle.cc_program.specs.Edges.{edge, io_of};
 ghost use Rattle.cc_program.specs.Ends.{IsTold, line_of, status_of};
 ghost use Rattle.cc_program.specs.Input.{IsRefused, planned_for};
-ghost use Rattle.cc_program.specs.Runs.{IsRefusal, LoadLogs, Loads, LoadsAll, LoadsFile, Logs, PerformLogs, Performs, Ran, Runs, TellsRefusal};
+ghost use Rattle.cc_program.specs.Runs.{AsksFile, IsRefusal, LoadLogs, Loads, LoadsAll, LoadsFile, Logs, PerformLogs, Performs, Ran, Runs, TellsRefusal};
 ghost use Rattle.cc_program.specs.declared.ends.End.{End};
 
 use crate::answers::{Answer, write};
@@ -19,6 +19,7 @@ use crate::applies::apply;
 use crate::checks::judge;
 use crate::commands::{Request, read_request};
 use crate::ends::{End, conclude};
+use crate::gens::generated;
 use crate::input::{loaded_for, refusal_line};
 use crate::planning::Planning;
 use crate::plans::plan;
@@ -30,10 +31,10 @@ use load_model::Memory;
 use std::alloc::Global;
 use std::thread::Threads;
 
-/// Why a file was not loaded.
+/// Why a cluster was not read.
 #[derive(Debug, Drop)]
 pub enum LoadFault {
-    /// The line that tells the file's first fault.
+    /// The line that tells the first fault of its text.
     Refused(Vec<u8>),
     Failed,
     Memory,
@@ -52,14 +53,37 @@ fn refused(alloc: Global, refusal: &FileRefusal) -> LoadFault
     }
 }
 
-fn load<F: Files>(alloc: Global, files: &mut F, name: &str) -> Result<ClusterFile, LoadFault>
+// The bytes that a command's cluster is read from.
+fn source<F: Files>(alloc: Global, files: &mut F, request: &Request) -> Result<Vec<u8>, FileFault>
     ensures later { F.faults files.old ≤ F.faults files.new }
-    ensures loads { Loads (F.contents files.old name.now) (F.faults files.old) (F.faults files.new) result }
+    ensures cause { IsErrOf result FileFault.Failed → HasFile (asked request.now) × HasRisen (F.faults files.old) (F.faults files.new) }
+    ensures bytes { IfOk result (λ v. IfSome (source_of (F.contents files.old) (asked request.now)) (λ told. v.items ≡ told)) }
+    ensures contents { F.contents files.new ≡ F.contents files.old }
+    ensures read { OnOk result (F.log files.new ≡ with_source (F.log files.old) (asked request.now)) }
+    ensures failed { OnErr result ((F.log files.new ≡ F.log files.old) ⊎ (F.log files.new ≡ with_source (F.log files.old) (asked request.now))) }
+{
+    match request {
+        Request::Plan { file, .. } => files.load(alloc, file),
+        Request::Check { file, .. } => files.load(alloc, file),
+        Request::Apply { file, .. } => files.load(alloc, file),
+        Request::Gen { recipe, .. } => Ok(recipe.text(alloc)?),
+        Request::Session { file } => files.load(alloc, file),
+    }
+}
+
+/// Loads the cluster that a request is about.
+pub fn load<F: Files>(
+    alloc: Global,
+    files: &mut F,
+    request: &Request,
+) -> Result<ClusterFile, LoadFault>
+    ensures later { F.faults files.old ≤ F.faults files.new }
+    ensures loads { Loads (F.contents files.old) (asked request.now) (F.faults files.old) (F.faults files.new) result }
     ensures file { IfOk result IsFile }
     ensures contents { F.contents files.new ≡ F.contents files.old }
-    ensures logs { LoadLogs (F.log files.old) (F.log files.new) name.now result }
+    ensures logs { LoadLogs (F.log files.old) (F.log files.new) (asked request.now) result }
 {
-    match files.load(alloc, name) {
+    match source(alloc, files, request) {
         Ok(bytes) => match read_cluster(alloc, &bytes) {
             Ok(file) => Ok(file),
             Err(refusal) => Err(refused(alloc, &refusal)),
@@ -111,6 +135,11 @@ fn perform<F: Files, L: Link>(
             ..
         } => write(console, plan(alloc, file, &planning, trace)),
         Request::Apply { planning, .. } => write(console, apply(alloc, file, &planning)),
+        Request::Gen {
+            recipe,
+            whole,
+            planning,
+        } => write(console, generated(alloc, file, &recipe, whole, &planning)),
         Request::Session { .. } => session(alloc, file, console),
         Request::Check {
             trace,
@@ -129,8 +158,8 @@ fn run<F: Files, L: Link>(alloc: Global, words: &[String], files: &mut F, consol
     ensures out { L.Sink.faults console.old ≤ L.Sink.faults console.new }
     ensures runs { Runs (map string_bytes words.now) (edge F.contents F.faults files.old files.new (io_of L.left L.Source.faults L.Sink.faults L.written console.old console.new)) result }
     ensures logs { Logs (map string_bytes words.now) (F.log files.old) (F.log files.new) result }
-    ensures alone { (asked : Asked) (bytes : List ℕ) (fault : Fault) → command (map string_bytes words.now) ≡ Some asked → F.contents files.old (file_of asked) ≡ Some bytes
-        → IsRefused bytes fault → (F.log files.new ≡ F.log files.old) ⊎ (F.log files.new ≡ with_name (F.log files.old) (file_of asked)) }
+    ensures alone { (asked : Asked) (bytes : List ℕ) (fault : Fault) → command (map string_bytes words.now) ≡ Some asked → source_of (F.contents files.old) asked ≡ Some bytes
+        → IsRefused bytes fault → (F.log files.new ≡ F.log files.old) ⊎ (F.log files.new ≡ with_source (F.log files.old) asked) }
     ensures input { AsksSession (map string_bytes words.now) ⊎ ((L.left console.new ≡ L.left console.old) × (L.Source.faults console.new ≡ L.Source.faults console.old)) }
     ensures source { L.Source.faults console.old ≤ L.Source.faults console.new }
 {
@@ -139,7 +168,7 @@ fn run<F: Files, L: Link>(alloc: Global, words: &[String], files: &mut F, consol
         Err(WordsFault::Usage) => return End::Usage,
         Err(WordsFault::Memory) => return End::Memory,
     };
-    match load(alloc, files, request.file()) {
+    match load(alloc, files, &request) {
         Ok(file) => perform(alloc, files, console, request, file),
         Err(LoadFault::Refused(line)) => End::Refused(line),
         Err(LoadFault::Failed) => End::FileFault,
@@ -148,7 +177,7 @@ fn run<F: Files, L: Link>(alloc: Global, words: &[String], files: &mut F, consol
 }
 
 /// Runs a command that waits for nobody, and answers the exit status: 0 where it is done, 2 for words that are no command,
-/// 3 for a file that is refused, 4 for a hard goal that fails, 5 for a fault of the files, 6 and 7 for a fault of the input and of
+/// 3 for a cluster's text that is refused, 4 for a hard goal that fails, 5 for a fault of the files, 6 and 7 for a fault of the input and of
 /// the output, 9 for want of memory, 10 for an input that ended inside a request or couldn't be framed, and 11 for a trace that is
 /// refused. An answer goes to the console once it is whole in memory; a session's replies go there one after another. One line on any
 /// end but 0 goes to `err`; what becomes of that line changes nothing.
@@ -166,7 +195,7 @@ pub fn run_quiet<R: Threads + Sync, F: Files, L: Link, O: Sink>(
     // How it ended, with what stands behind that end, and its line on the error stream, or a prefix of the line where that fails.
     ensures ended { (end : End) × (result ≡ status_of end) × Runs (map string_bytes words.now) (edge F.contents F.faults files.old files.new (io_of L.left L.Source.faults L.Sink.faults L.written console.old console.new)) end × IsTold (line_of end) (O.written err.old) (O.written err.new) (O.faults err.old) (O.faults err.new) }
     ensures statuses { (result ≡ 0) ⊎ (result ≡ 2) ⊎ (result ≡ 3) ⊎ (result ≡ 4) ⊎ (result ≡ 5) ⊎ (result ≡ 6) ⊎ (result ≡ 7) ⊎ (result ≡ 9) ⊎ (result ≡ 10) ⊎ (result ≡ 11) }
-    // 0: the output grew by a text that the command makes of what its file means; or the session was served to its end and drained.
+    // 0: the output grew by a text that the command makes of what its cluster's text means; or the session was served to its end and drained.
     ensures done { result ≡ 0 → Ran (map string_bytes words.now) (edge F.contents F.faults files.old files.new (io_of L.left L.Source.faults L.Sink.faults L.written console.old console.new)) End.Done }
     // 11: it grew by the first fault of a trace that isn't good for what the file means.
     ensures trace { result ≡ 11 → Ran (map string_bytes words.now) (edge F.contents F.faults files.old files.new (io_of L.left L.Source.faults L.Sink.faults L.written console.old console.new)) End.TraceRefused }
@@ -180,12 +209,12 @@ pub fn run_quiet<R: Threads + Sync, F: Files, L: Link, O: Sink>(
     // 2: only where the words are no command, and there unless memory runs out.
     ensures usage { result ≡ 2 → command (map string_bytes words.now) ≡ None }
     ensures refuses_words { command (map string_bytes words.now) ≡ None → (result ≡ 2) ⊎ (result ≡ 9) }
-    // 3: only where the file has a fault, whose line is told, and there unless the files or memory fail.
+    // 3: only where the file, or the text that is made, has a fault, whose line is told, and there unless the files or memory fail.
     ensures refused { result ≡ 3 → (line : List ℕ) × IsRefusal (map string_bytes words.now) (F.contents files.old) line × IsTold line (O.written err.old) (O.written err.new) (O.faults err.old) (O.faults err.new) }
-    ensures refuses { (asked : Asked) (bytes : List ℕ) (fault : Fault) → command (map string_bytes words.now) ≡ Some asked → F.contents files.old (file_of asked) ≡ Some bytes
+    ensures refuses { (asked : Asked) (bytes : List ℕ) (fault : Fault) → command (map string_bytes words.now) ≡ Some asked → source_of (F.contents files.old) asked ≡ Some bytes
         → IsRefused bytes fault → (result ≡ 3) ⊎ (result ≡ 5) ⊎ (result ≡ 9) }
-    // 5: only where the files' count rose.
-    ensures files { result ≡ 5 → HasRisen (F.faults files.old) (F.faults files.new) }
+    // 5: only where the files' count rose, of a command that reads its cluster from a file.
+    ensures files { result ≡ 5 → AsksFile (map string_bytes words.now) × HasRisen (F.faults files.old) (F.faults files.new) }
     // Nothing is written on 2, 3 and 5; on 9 only by a session.
     ensures silent { (result ≡ 2) ⊎ (result ≡ 3) ⊎ (result ≡ 5) → L.written console.new ≡ L.written console.old }
     ensures memory { result ≡ 9 → (L.written console.new ≡ L.written console.old) ⊎ AsksSession (map string_bytes words.now) }
@@ -194,8 +223,8 @@ pub fn run_quiet<R: Threads + Sync, F: Files, L: Link, O: Sink>(
     // 2: none. 3: the cluster file alone, and no more than that wherever it has a fault.
     ensures unloaded { result ≡ 2 → F.log files.new ≡ F.log files.old }
     ensures loaded_alone { result ≡ 3 → LoadsFile (map string_bytes words.now) (F.log files.old) (F.log files.new) }
-    ensures alone { (asked : Asked) (bytes : List ℕ) (fault : Fault) → command (map string_bytes words.now) ≡ Some asked → F.contents files.old (file_of asked) ≡ Some bytes
-        → IsRefused bytes fault → (F.log files.new ≡ F.log files.old) ⊎ (F.log files.new ≡ with_name (F.log files.old) (file_of asked)) }
+    ensures alone { (asked : Asked) (bytes : List ℕ) (fault : Fault) → command (map string_bytes words.now) ≡ Some asked → source_of (F.contents files.old) asked ≡ Some bytes
+        → IsRefused bytes fault → (F.log files.new ≡ F.log files.old) ⊎ (F.log files.new ≡ with_source (F.log files.old) asked) }
     // Only a session reads the input.
     ensures left_alone { AsksSession (map string_bytes words.now) ⊎ ((L.left console.new ≡ L.left console.old) × (L.Source.faults console.new ≡ L.Source.faults console.old)) }
     // Counts never fall.

@@ -28,8 +28,8 @@ fn drained_end(drain: DrainEnd) -> End
     }
 }
 
-// How a run ends whose session ended so.
-fn ended_by(ended: SessionEnd) -> End
+/// How a run ends whose session ended so.
+pub fn ended_by(ended: SessionEnd) -> End
     ensures { result ≡ ended_by ended.link ended.drain }
 {
     match ended.link {

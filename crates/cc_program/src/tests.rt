@@ -3,6 +3,7 @@ mod clusters;
 mod goals;
 mod rows;
 mod sessions;
+mod summaries;
 
 use crate::quiet::run_quiet;
 use cc_base::{
@@ -16,6 +17,7 @@ use std::alloc::{AllocError, Global};
 use std::process::Abort;
 use std::test::Fail;
 use std::thread::Threads;
+use summaries::SUMMARIES;
 
 // Files of which none can be loaded for want of memory.
 #[derive(Drop)]
@@ -175,6 +177,31 @@ fn traces_of_plans_are_good(rt: HostRuntime) -> Result<(), Fail> {
         expect_good(&rt, cluster)?;
     }
     Ok(())
+}
+
+// Runs words that need no file.
+fn made<R: Threads + Sync + AllocGlobal>(
+    rt: &R,
+    words: &str,
+) -> Result<(u8, Vec<u8>, Vec<u8>), AllocError> {
+    let alloc = rt.alloc();
+    let mut files = files_of(alloc, "", "")?;
+    let input = source(alloc, "", None)?;
+    run(rt, words, &mut files, input, sink(alloc, None)?)
+}
+
+#[test]
+fn clusters_are_made(rt: HostRuntime) -> Result<(), Fail> {
+    expect_rows(&rt, &SUMMARIES)?;
+    let words = "gen 7 --brokers 12 --partitions 120";
+    let (status, summary, _) = made(&rt, words)?;
+    let (_, again, _) = made(&rt, words)?;
+    assert!(rt; status == 0 || status == 4);
+    assert_eq!(rt; summary.as_slice(), again.as_slice());
+    let (status, cluster, _) = made(&rt, "gen 7 --brokers 6 --partitions 30 --file")?;
+    assert_eq!(rt; status, 0);
+    let cluster = str::from_utf8(&cluster).map_err(|_| Fail::from("no text"))?;
+    expect_good(&rt, cluster)
 }
 
 // Runs a session over two brokers, of whose input or output one call fails, if it is to.

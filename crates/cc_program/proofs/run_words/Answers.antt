@@ -3,6 +3,3 @@ use Rattle.cc_program.proofs.run_words.Goals as goal
 
 pub returns-in-Ok : goal.returns-in-Ok
 returns-in-Ok g c = let ended = c.run_quiet.ensures.ended in (ended.0, c.exit_code.ensures ∙ ended.1, ended.3)
-
-pub returns-in-Err : goal.returns-in-Err
-returns-in-Err g c = (c.end_without_words.result, c.exit_code-in-Err.ensures ∙ c.conclude.ensures.status, c.conclude.ensures.told)

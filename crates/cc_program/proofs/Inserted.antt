@@ -1,0 +1,32 @@
+-- A copier that is taken out of a list, and put back.
+use Rattle.std.proofs.Common.{◌≡◌, ◌<◌, ℕ, true, false, zero, suc, List, [], ◌∷◌, length, map, slice_index_or, refl, ap, sym, ◌∙◌, arith}
+use Rattle.std.specs.List.{insert, remove}
+use Rattle.std.specs.Prelude.{Option, Some, None, IfSome, IsSome}
+use Rattle.cluster_json.specs.File.{Meaning}
+use Rattle.control_core.specs.Books.{BookView}
+use Rattle.mover_rounds.specs.Made.{Copies}
+use Rattle.cc_program.specs.Edges.{Console}
+use Rattle.cc_program.specs.Lives.{IsLeft, IsOver}
+use Rattle.cc_program.specs.declared.ends.End.{End}
+
+put_back : {X : Type 0} (xs : List X) (n : ℕ) (x : X) → n < length xs → x ≡ slice_index_or xs n x → xs ≡ insert (remove xs n) n x
+put_back [] n x p v = absurd (omega (arith, p))
+put_back (y ∷ xs) zero x p v = ap (λ (h : _). h ∷ xs) (sym v)
+put_back (y ∷ xs) (suc n) x p v = ap (λ (t : List _). y ∷ t) (put_back xs n x (omega (arith, p)) v)
+
+map_insert : {X Y : Type 0} (f : X → Y) (xs : List X) (n : ℕ) (x : X) → map f (insert xs n x) ≡ insert (map f xs) n (f x)
+map_insert f xs zero x = refl
+map_insert f [] (suc n) x = refl
+map_insert f (y ∷ xs) (suc n) x = ap (λ (t : List _). f y ∷ t) (map_insert f xs n x)
+
+pub taken_out : {X Y : Type 0} (f : X → Y) (xs ys : List X) (n : ℕ) (x : X) → n < length xs → x ≡ slice_index_or xs n x → ys ≡ remove xs n → map f xs ≡ insert (map f ys) n (f x)
+taken_out {X} {Y} f xs ys n x p v r = ap (map f) (put_back xs n x p v) ∙ (ap (λ (t : List X). map f (insert t n x)) (sym r) ∙ map_insert f ys n x)
+
+pub put_in : {X Y : Type 0} (f : X → Y) (xs ys : List X) (n : ℕ) (x : X) → ys ≡ insert xs n x → map f ys ≡ insert (map f xs) n (f x)
+put_in f xs ys n x e = ap (map f) e ∙ map_insert f xs n x
+
+-- a book that was begun
+pub left_begun : {A : Type 0} (faults : A → ℕ) (m : Meaning) (movers planners : ℕ) (old new : List Copies) (io : Console) (admin : A) (back : Option A) (book : Option (BookView A)) (end : End)
+    → IsSome book → IfSome book (λ c. IsOver m movers planners old new io c end) → IsLeft faults m movers planners old new io admin back book end
+left_begun faults m movers planners old new io admin back None end is over = absurd (let h : false ≡ true = is in cc)
+left_begun faults m movers planners old new io admin back (Some c) end is over = over
