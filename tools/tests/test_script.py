@@ -14,6 +14,11 @@ ROOT = pathlib.Path(__file__).resolve().parents[2]
 sys.path.insert(0, str(ROOT / "tools/lib"))
 from commands import NAMES
 
+# A shell that starts the tests in the background has them ignore signals, which what they start would inherit.
+for number in (signal.SIGINT, signal.SIGHUP, signal.SIGTERM):
+    if signal.getsignal(number) is signal.SIG_IGN:
+        signal.signal(number, signal.SIG_DFL)
+
 NO_PROVER = "sumpharu: rt, the prover's command, isn't on the path\n"
 
 # What the pretended prover does is told by files in the folder that CONTROL names.
