@@ -7,9 +7,10 @@ _sumpharu() {
         [check]='--goals --skip-hard-goal-check --excluded-topics'
         [gen]='--brokers --partitions --goals --skip-hard-goal-check --file'
         [session]='--movers --planners'
+        [serve]='--listen --links --movers --planners'
     )
     if [ "$COMP_CWORD" -eq 1 ]; then
-        COMPREPLY=($(compgen -W "plan apply check gen session help --help --version" -- "$word"))
+        COMPREPLY=($(compgen -W "plan apply check gen session serve help --help --version" -- "$word"))
         return
     fi
     if [ "${COMP_WORDS[1]}" = help ]; then
@@ -21,7 +22,7 @@ _sumpharu() {
         return
     fi
     case ${COMP_WORDS[COMP_CWORD - 1]} in
-    --brokers | --excluded-topics | --goals | --movers | --partitions | --planners)
+    --brokers | --excluded-topics | --goals | --links | --listen | --movers | --partitions | --planners)
         COMPREPLY=()
         return
         ;;

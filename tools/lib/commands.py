@@ -18,6 +18,8 @@ class Command:
     text: str
     # Whether its output comes bit by bit; the others write an answer once it is whole.
     writes_as_it_goes: bool = False
+    # Whether it reads and writes links alone, and never the input and the output.
+    is_service: bool = False
 
     @property
     def usage(self):
@@ -96,6 +98,14 @@ OPTIONS = {
             "0",
         ),
         Option("--planners", "N", "how many planners plan beside the requests, each on a thread of its own, 0 to 4", "0"),
+        Option("--listen", "ADDRESS", "where links come in, HOST:PORT", "127.0.0.1:9090"),
+        Option(
+            "--links",
+            "N",
+            "how many links, which are TCP connections, are accepted in all, 1 to 64. Each is served on a thread of its own, and the "
+            "service ends once all have ended",
+            "1",
+        ),
     )
 }
 
@@ -135,12 +145,23 @@ COMMANDS = (
         "may share; at the input's end, or behind a request that closes, it carries out what is left",
         writes_as_it_goes=True,
     ),
+    Command(
+        "serve",
+        ("FILE",),
+        ("--listen", "--links", "--movers", "--planners"),
+        "answers the HTTP requests of links that come in at an address, over an in-process cluster that links, movers and planners "
+        "share; once as many links as asked were accepted and have ended, it carries out what is left, and ends. It neither reads the "
+        "input nor writes the output",
+        is_service=True,
+    ),
 )
 
 NAMES = tuple(command.name for command in COMMANDS)
-AT_ONCE = tuple(command.name for command in COMMANDS if not command.writes_as_it_goes)
+AT_ONCE = tuple(command.name for command in COMMANDS if not command.writes_as_it_goes and not command.is_service)
+WRITERS = tuple(command.name for command in COMMANDS if not command.is_service)
 LOADERS = tuple(command.name for command in COMMANDS if "FILE" in command.operands)
 NOTHING = "nothing"
+LEFT = "a change of the cluster failed, and work is left; the cluster in memory never fails"
 
 # In the order of the statuses, and of the commands where a status has several.
 ENDS = (
@@ -151,6 +172,7 @@ ENDS = (
     End(0, ("gen",), "a plan was made", "its summary", NOTHING),
     End(0, ("gen",), "the cluster was made", "its file", NOTHING, only="with --file"),
     End(0, ("session",), "the input was read to its end or to a request that closes, and nothing is left to do", "the replies", NOTHING),
+    End(0, ("serve",), "as many links as asked were accepted and have ended, and nothing is left to do", NOTHING, NOTHING),
     End(2, NAMES, "the arguments are no command", NOTHING, "usage error"),
     End(3, LOADERS, "the cluster file was loaded and is refused", NOTHING, "cluster refused: FAULT"),
     End(4, ("plan", "apply"), "a hard goal fails, with the measure that is left", '{"failed":"GOAL","measure":"N"}', "hard goal failed: GOAL"),
@@ -158,11 +180,22 @@ ENDS = (
     End(4, ("gen",), "a hard goal fails", "the summary up to there", "hard goal failed: GOAL"),
     End(5, LOADERS, "a file can't be loaded: absent, unreadable, above 67,108,864 bytes", NOTHING, "file fault"),
     End(6, ("session",), "the input can't be read; what was left is carried out", "the replies so far", "read fault"),
-    End(7, NAMES, "the output can't be written", "a prefix of the text", "write fault"),
+    End(7, WRITERS, "the output can't be written", "a prefix of the text", "write fault"),
+    End(8, ("session",), LEFT, "the replies so far", "not drained", only="with --movers or --planners"),
+    End(8, ("serve",), LEFT, NOTHING, "not drained"),
     End(9, AT_ONCE, "out of memory", NOTHING, "want of memory"),
     End(9, ("session",), "out of memory", "the replies so far", "want of memory"),
+    End(9, ("serve",), "out of memory, also where a link alone ended by it", NOTHING, "want of memory"),
     End(10, ("session",), "the input ended inside a request, or can't be framed; what was left is carried out", "the replies, also that of the refusal", "input cut"),
     End(11, ("check",), "the trace isn't good, or is no trace", "fault T A KIND", "trace refused"),
+    End(
+        12,
+        ("serve",),
+        "the address can't be listened at, or a further link can't be accepted; the links that were accepted are served to their end, and "
+        "what was left is carried out",
+        NOTHING,
+        "listener fault",
+    ),
     End(1, (), "the program couldn't be built; no older one is run", NOTHING, "what the build said", only="the script"),
 )
 
@@ -175,4 +208,5 @@ EXAMPLES = (
     "check examples/three-brokers.json examples/three-brokers.trace.json --goals RackAwareGoal --skip-hard-goal-check",
     "gen 1 --brokers 3 --partitions 2",
     "session examples/two-brokers.json < examples/requests.http",
+    "serve examples/two-brokers.json --links 4 --movers 2 --planners 1",
 )

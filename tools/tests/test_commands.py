@@ -44,7 +44,7 @@ def commands():
 
 class Commands(unittest.TestCase):
     def test_commands_are_those_that_the_program_runs(self):
-        text = (SOURCES / "commands.rt").read_text()
+        text = "".join((SOURCES / name).read_text() for name in ("commands.rt", "lives.rt"))
         run = {name.lower() for name in re.findall(r"^ +Command::(\w+)\(", text, re.M)}
         self.assertEqual(set(NAMES), run, "tools/lib/commands.py needs a row for each command; then run tools/make-manual")
 
@@ -70,20 +70,28 @@ class Commands(unittest.TestCase):
         text = (SOURCES / "ends.rt").read_text()
         statuses = {name: int(number) for name, number in re.findall(r"End::(\w+)(?:\(_\))? => (\d+),", text)}
         lines = dict(re.findall(r'End::(\w+) => b"([^"]*?)(?:\\n)?",', text))
+        self.assertEqual({end.status for end in ENDS}, set(statuses.values()) | {1})
         clause = re.search(r"ensures statuses \{(.*?)\}", (SOURCES / "quiet.rt").read_text(), re.S)[1]
-        may_be = {int(number) for number in re.findall(r"result ≡ (\d+)", clause)}
-        self.assertEqual({end.status for end in ENDS}, may_be | {1})
+        quiet = {int(number) for number in re.findall(r"result ≡ (\d+)", clause)}
+        with_threads = {end.status for end in ENDS if set(end.commands) == {"serve"} or "--movers" in end.only}
+        self.assertEqual({end.status for end in ENDS} - quiet, with_threads - quiet | {1})
         for name, line in lines.items():
             told = {end.line for end in ENDS if end.status == statuses[name]}
             self.assertLessEqual(told, {line or "nothing"}, name)
 
     def test_each_command_may_end_well_and_by_its_words(self):
-        for name in NAMES:
-            self.assertLessEqual({0, 2, 7, 9}, {end.status for end in ENDS if name in end.commands}, name)
+        for command in COMMANDS:
+            ends = {end.status for end in ENDS if command.name in end.commands}
+            self.assertLessEqual({0, 2, 9}, ends, command.name)
+            self.assertEqual(7 in ends, not command.is_service, command.name)
 
     @unittest.skipUnless(PROGRAM.exists(), "the program isn't built")
     def test_examples(self):
+        """Each example of the help ends well. Those of a service want clients: test_serve.py has them."""
+        services = {command.name for command in COMMANDS if command.is_service}
         for example in EXAMPLES:
+            if example.split()[0] in services:
+                continue
             words, _, source = example.partition(" < ")
             given = (ROOT / source).read_bytes() if source else b""
             ran = subprocess.run([PROGRAM, *words.partition(" > ")[0].split()], input=given, cwd=ROOT, capture_output=True, timeout=60)

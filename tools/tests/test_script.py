@@ -431,6 +431,7 @@ class Script(unittest.TestCase):
             (5, ["session", "/none"], "sumpharu: there is no file '/none'\n"),
             (10, ["session", good], "sumpharu: docs/FORMATS.md, 'Requests of the service', "),
             (11, ["check", good, good], "sumpharu: docs/FORMATS.md, 'The trace', "),
+            (12, ["serve", good, "--links", "2"], "sumpharu: 'serve' can't listen where '--listen' says, "),
             (0, ["plan", good], ""),
             (7, ["plan", good], ""),
         ]

@@ -327,6 +327,7 @@ class Tools(unittest.TestCase):
             (["plan", "a", "--goals", "R"], ""),
             (["check", "a", "b", "--goals", "RackAwareGoal", "--s"], "--skip-hard-goal-check"),
             (["session", "a", "--m"], "--movers"),
+            (["serve", "a", "--li"], "--links --listen"),
             (["plam", ""], ""),
         ]
         for words, wanted in rows:

@@ -1,4 +1,4 @@
--- The movers and planners of a session are few.
+-- The movers, planners and links that words ask for are few.
 use Rattle.std.proofs.Common.{◌≡◌, ℕ, ◌≤◌, Bool, true, false, List, [], ◌∷◌, refl, subst, arith}
 use Rattle.std.specs.Prelude.{Option, Some, None, ◌&&◌, nat_le, option_map, option_and_then, if◌then◌else◌, codes}
 use Rattle.std.proofs.lemmas.Bool.Decides.{nat_tests}
@@ -6,7 +6,7 @@ use Rattle.plan_terms.specs.Digits.{whole_of}
 use Rattle.clap.specs.Words.{Kinds, Row, Text, fault_of, first_of, subcommand_of}
 use Rattle.command_words.specs.Arguments.{the_app}
 use Rattle.command_words.specs.Meaning as words
-use Rattle.cc_program.specs.Lives.{LiveAsked, live_command, live_of}
+use Rattle.cc_program.specs.Lives.{CrewAsked, LiveAsked, live_command, live_of, links_in}
 
 abbrev AreFew : words.WorkersAsked → Type 0
 AreFew w = (w.movers ≤ 64) × (w.planners ≤ 4)
@@ -39,9 +39,10 @@ module _ (w : words.WorkersAsked) where
   are_few : (rows : List Row) → words.workers_of rows ≡ Some w → AreFew w
   are_few rows e = by_movers (words.number_in 0 64 (first_of (codes "movers") rows)) (words.number_in 0 4 (first_of (codes "planners") rows)) (λ m h. numbered 0 64 m (first_of (codes "movers") rows) h) (λ m h. numbered 0 4 m (first_of (codes "planners") rows) h) e
 
--- what sessions ask
+-- what sessions and services ask
 abbrev Holds : words.Asked → Type 0
 Holds (words.session o) = AreFew o.workers
+Holds (words.serve o) = AreFew o.workers × (o.links ≤ 64)
 Holds _ = Unit {0}
 
 module _ (a : words.Asked) where
@@ -57,6 +58,27 @@ module _ (a : words.Asked) where
   of_session rows None o e = absurd cc
   of_session rows (Some f) o e = with_workers rows f (words.workers_of rows) o (λ w h. are_few w rows h) e
 
+  with_links : (file listen : Text) (w : words.WorkersAsked) (x : Option ℕ) (o : words.ServeAsked) → AreFew w → ((n : ℕ) → x ≡ Some n → n ≤ 64) → option_map (words.serve_with file w listen) x ≡ Some o → AreFew o.workers × (o.links ≤ 64)
+  with_links file listen w None o few most e = absurd cc
+  with_links file listen w (Some n) o few most e =
+      let same : words.serve_with file w listen n ≡ o = cc in
+      subst (λ (x : words.ServeAsked). AreFew x.workers × (x.links ≤ 64)) same (few, most n refl)
+
+  with_listen : (file : Text) (w : words.WorkersAsked) (x : Option Text) (y : Option ℕ) (o : words.ServeAsked) → AreFew w → ((n : ℕ) → y ≡ Some n → n ≤ 64) → option_and_then (λ listen. option_map (words.serve_with file w listen) y) x ≡ Some o
+      → AreFew o.workers × (o.links ≤ 64)
+  with_listen file w None y o few most e = absurd cc
+  with_listen file w (Some listen) y o few most e = with_links file listen w y o few most e
+
+  with_crew : (file : Text) (x : Option words.WorkersAsked) (l : Option Text) (y : Option ℕ) (o : words.ServeAsked) → ((w : words.WorkersAsked) → x ≡ Some w → AreFew w) → ((n : ℕ) → y ≡ Some n → n ≤ 64)
+      → option_and_then (λ w. option_and_then (λ listen. option_map (words.serve_with file w listen) y) l) x ≡ Some o → AreFew o.workers × (o.links ≤ 64)
+  with_crew file None l y o few most e = absurd cc
+  with_crew file (Some w) l y o few most e = with_listen file w l y o (few w refl) most e
+
+  of_serve : (rows : List Row) (file : Option Text) (o : words.ServeAsked)
+      → option_and_then (λ f. option_and_then (λ w. option_and_then (λ listen. option_map (words.serve_with f w listen) (words.links_of rows)) (first_of (codes "listen") rows)) (words.workers_of rows)) file ≡ Some o → AreFew o.workers × (o.links ≤ 64)
+  of_serve rows None o e = absurd cc
+  of_serve rows (Some f) o e = with_crew f (words.workers_of rows) (first_of (codes "listen") rows) (words.links_of rows) o (λ w h. are_few w rows h) (λ n h. numbered 1 64 n (first_of (codes "links") rows) h) e
+
   chosen : (rows : List Row) (p c l g s v : Bool)
       → (if p then option_map words.plan (words.plan_of rows)
       else (if c then option_map words.check (words.check_of rows)
@@ -69,7 +91,7 @@ module _ (a : words.Asked) where
   chosen rows false false true g s v h = mapped words.apply (words.apply_of rows) (λ y e. tt) h
   chosen rows false false false true s v h = mapped words.gen (words.gen_of rows) (λ y e. tt) h
   chosen rows false false false false true v h = mapped words.session (words.session_of rows) (λ y e. of_session rows _ y e) h
-  chosen rows false false false false false true h = mapped words.serve (words.serve_of rows) (λ y e. tt) h
+  chosen rows false false false false false true h = mapped words.serve (words.serve_of rows) (λ y e. of_serve rows _ y e) h
   chosen rows false false false false false false h = absurd cc
 
   found : (s : Option (Text × List Row)) → option_and_then words.asked_of s ≡ Some a → Holds a
@@ -80,14 +102,20 @@ module _ (a : words.Asked) where
   unrefused [] s h = found s h
   unrefused (k ∷ ks) s h = absurd cc
 
-lived : (a : words.Asked) (l : LiveAsked) → Holds a → live_of a ≡ Some l → (l.movers ≤ 64) × (l.planners ≤ 4)
-lived (words.session o) l h e = let same : record { file = o.file; movers = o.workers.movers; planners = o.workers.planners } ≡ l = cc in subst (λ (x : LiveAsked). (x.movers ≤ 64) × (x.planners ≤ 4)) same h
+abbrev IsFew : CrewAsked → Type 0
+IsFew c = (c.movers ≤ 64) × (c.planners ≤ 4) × (links_in c.serving ≤ 64)
+
+lived : (a : words.Asked) (l : LiveAsked) → Holds a → live_of a ≡ Some l → IsFew l.crew
+lived (words.session o) l h e = let same : record { file = o.file; crew = record { movers = o.workers.movers; planners = o.workers.planners; serving = None } } ≡ l = cc in subst (λ (x : LiveAsked). IsFew x.crew) same (h.0, h.1, omega arith)
+lived (words.serve o) l h e =
+    let same : record { file = o.file; crew = record { movers = o.workers.movers; planners = o.workers.planners; serving = Some (record { address = o.listen; links = o.links }) } } ≡ l = cc in
+    subst (λ (x : LiveAsked). IsFew x.crew) same (h.0.0, h.0.1, h.1)
 lived _ l h e = absurd cc
 
-by_words : (x : Option words.Asked) (l : LiveAsked) → ((a : words.Asked) → x ≡ Some a → Holds a) → option_and_then live_of x ≡ Some l → (l.movers ≤ 64) × (l.planners ≤ 4)
+by_words : (x : Option words.Asked) (l : LiveAsked) → ((a : words.Asked) → x ≡ Some a → Holds a) → option_and_then live_of x ≡ Some l → IsFew l.crew
 by_words None l h e = absurd cc
 by_words (Some a) l h e = lived a l (h a refl) e
 
--- at most 64 movers and 4 planners
-pub few_workers : (given : List Text) (l : LiveAsked) → live_command given ≡ Some l → (l.movers ≤ 64) × (l.planners ≤ 4)
+-- at most 64 movers, 4 planners and 64 links
+pub few_workers : (given : List Text) (l : LiveAsked) → live_command given ≡ Some l → IsFew l.crew
 few_workers given l e = by_words (words.meaning given) l (λ a h. unrefused a (fault_of the_app given) (subcommand_of the_app given) h) e

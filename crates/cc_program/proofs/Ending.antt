@@ -95,6 +95,7 @@ module _ (words : List (List ℕ)) (asked : Asked) (means : command words ≡ So
     ran end.Memory (inr h) = inr (answer end.Memory h)
     ran end.InputCut h = answer end.InputCut h
     ran end.TraceRefused h = answer end.TraceRefused h
+    ran end.ListenerFault h = absurd h
 
   -- the files that were loaded
   all_files : (a : Asked) (old : Option (List (List ℕ))) → with_more (with_source old a) a ≡ with_files old a
@@ -120,3 +121,4 @@ module _ (words : List (List ℕ)) (asked : Asked) (means : command words ≡ So
     logged end.Memory h = tt
     logged end.InputCut h = all h
     logged end.TraceRefused h = all h
+    logged end.ListenerFault h = all h

@@ -1,15 +1,16 @@
 -- A copier that is taken out of a list, and put back.
 use Rattle.std.proofs.Common.{◌≡◌, ◌<◌, ℕ, true, false, zero, suc, List, [], ◌∷◌, length, map, slice_index_or, refl, ap, sym, ◌∙◌, arith}
 use Rattle.std.specs.List.{insert, remove}
-use Rattle.std.specs.Prelude.{Option, Some, None, IfSome, IsSome}
+use Rattle.std.specs.Prelude.{Option, Some, None, IfSome, IsSome, option_map}
 use Rattle.cluster_json.specs.File.{Meaning}
 use Rattle.control_core.specs.Books.{BookView}
-use Rattle.mover_rounds.specs.Made.{Copies}
-use Rattle.cc_program.specs.Edges.{Console}
-use Rattle.cc_program.specs.Lives.{IsLeft, IsOver}
+use Rattle.live_service.specs.Asked as asked
+use Rattle.live_service.specs.Views.{ServedView}
+use Rattle.live_service.specs.declared.links.Serving.{Serving}
+use Rattle.cc_program.specs.Lives.{CrewAsked, IsLeft, IsOver, Outside, links_in, serving_told}
 use Rattle.cc_program.specs.declared.ends.End.{End}
 
-put_back : {X : Type 0} (xs : List X) (n : ℕ) (x : X) → n < length xs → x ≡ slice_index_or xs n x → xs ≡ insert (remove xs n) n x
+pub put_back : {X : Type 0} (xs : List X) (n : ℕ) (x : X) → n < length xs → x ≡ slice_index_or xs n x → xs ≡ insert (remove xs n) n x
 put_back [] n x p v = absurd (omega (arith, p))
 put_back (y ∷ xs) zero x p v = ap (λ (h : _). h ∷ xs) (sym v)
 put_back (y ∷ xs) (suc n) x p v = ap (λ (t : List _). y ∷ t) (put_back xs n x (omega (arith, p)) v)
@@ -26,7 +27,16 @@ pub put_in : {X Y : Type 0} (f : X → Y) (xs ys : List X) (n : ℕ) (x : X) →
 put_in f xs ys n x e = ap (map f) e ∙ map_insert f xs n x
 
 -- a book that was begun
-pub left_begun : {A : Type 0} (faults : A → ℕ) (m : Meaning) (movers planners : ℕ) (old new : List Copies) (io : Console) (admin : A) (back : Option A) (book : Option (BookView A)) (end : End)
-    → IsSome book → IfSome book (λ c. IsOver m movers planners old new io c end) → IsLeft faults m movers planners old new io admin back book end
-left_begun faults m movers planners old new io admin back None end is over = absurd (let h : false ≡ true = is in cc)
-left_begun faults m movers planners old new io admin back (Some c) end is over = over
+pub left_begun : {A : Type 0} (faults : A → ℕ) (m : Meaning) (crew : CrewAsked) (old new : Outside) (links : List ServedView) (admin : A) (back : Option A) (book : Option (BookView A)) (end : End)
+    → IsSome book → IfSome book (λ c. IsOver m crew old new links c end) → IsLeft faults m crew old new links admin back book end
+left_begun faults m crew old new links admin back None end is over = absurd (let h : false ≡ true = is in cc)
+left_begun faults m crew old new links admin back (Some c) end is over = over
+
+-- links, as a value of the program and as the words ask for them
+pub links_told : (s : Option Serving) → asked.links_asked s ≡ option_map (λ x. x.links) (serving_told s)
+links_told None = refl
+links_told (Some s) = refl
+
+pub links_counted : (s : Option Serving) → asked.links_of s ≡ links_in (serving_told s)
+links_counted None = refl
+links_counted (Some s) = refl

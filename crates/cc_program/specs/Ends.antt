@@ -6,7 +6,7 @@ use Rattle.cluster_json.specs.Texts.{fault_text}
 use Rattle.goal_set.specs.Kinds.{name_of}
 use Rattle.goal_set.specs.declared.kinds.GoalKind.{GoalKind}
 use Rattle.cc_program.specs.declared.ends.End.{End}
-use Rattle.cc_program.specs.declared.ends.End.TheVariants.{Done, Usage, Refused, GoalFailed, FileFault, ReadFault, WriteFault, NotDrained, Memory, InputCut, TraceRefused}
+use Rattle.cc_program.specs.declared.ends.End.TheVariants.{Done, Usage, Refused, GoalFailed, FileFault, ReadFault, WriteFault, NotDrained, Memory, InputCut, TraceRefused, ListenerFault}
 
 -- the exit status
 abbrev pub status_of : End → ℕ
@@ -21,6 +21,7 @@ status_of NotDrained = 8
 status_of Memory = 9
 status_of InputCut = 10
 status_of TraceRefused = 11
+status_of ListenerFault = 12
 
 -- the line on the error stream, ended by a line feed
 abbrev pub line_of : End → List ℕ
@@ -35,6 +36,7 @@ line_of NotDrained = codes "not drained" ++ 10 ∷ []
 line_of Memory = codes "want of memory" ++ 10 ∷ []
 line_of InputCut = codes "input cut" ++ 10 ∷ []
 line_of TraceRefused = codes "trace refused" ++ 10 ∷ []
+line_of ListenerFault = codes "listener fault" ++ 10 ∷ []
 
 -- the line that tells a file's fault
 abbrev pub refusal_line : Fault → List ℕ

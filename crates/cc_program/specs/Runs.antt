@@ -17,7 +17,7 @@ use Rattle.cc_program.specs.Input.{IsRefused, Means, planned_for}
 use Rattle.cc_program.specs.Planned.{IsPlanned}
 use Rattle.cc_program.specs.Sessions.{DidSession}
 use Rattle.cc_program.specs.declared.ends.End.{End}
-use Rattle.cc_program.specs.declared.ends.End.TheVariants.{Usage, Refused, FileFault, NotDrained, Memory}
+use Rattle.cc_program.specs.declared.ends.End.TheVariants.{Usage, Refused, FileFault, NotDrained, Memory, ListenerFault}
 use Rattle.cc_program.specs.declared.quiet.LoadFault.{LoadFault}
 use Rattle.cc_program.specs.declared.quiet.LoadFault.TheVariants as fault
 
@@ -68,6 +68,7 @@ Runs words e (Refused line) = IsRefusal words e.told line.items × IsSilent e.io
 Runs words e FileFault = AsksFile words × HasRisen e.files_before e.files_now × IsSilent e.io
 Runs words e Memory = IsSilent e.io ⊎ Ran words e Memory
 Runs words e NotDrained = ⊥
+Runs words e ListenerFault = ⊥
 Runs words e end = Ran words e end
 
 -- how a command ends whose cluster was read
@@ -77,6 +78,7 @@ Performs asked m e (Refused line) = ⊥
 Performs asked m e FileFault = HasFile asked × HasRisen e.files_before e.files_now × IsSilent e.io
 Performs asked m e Memory = IsSilent e.io ⊎ Did asked m e Memory
 Performs asked m e NotDrained = ⊥
+Performs asked m e ListenerFault = ⊥
 Performs asked m e end = Did asked m e end
 
 -- ---- the files that are loaded

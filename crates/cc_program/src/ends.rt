@@ -22,6 +22,8 @@ pub enum End {
     /// The input ended inside a request, or couldn't be framed.
     InputCut,
     TraceRefused,
+    /// A call of the listener failed.
+    ListenerFault,
 }
 
 fn status(end: &End) -> u8
@@ -39,6 +41,7 @@ fn status(end: &End) -> u8
         End::Memory => 9,
         End::InputCut => 10,
         End::TraceRefused => 11,
+        End::ListenerFault => 12,
     }
 }
 
@@ -56,6 +59,7 @@ fn line(end: &End) -> &[u8]
         End::Memory => b"want of memory\n",
         End::InputCut => b"input cut\n",
         End::TraceRefused => b"trace refused\n",
+        End::ListenerFault => b"listener fault\n",
     }
 }
 

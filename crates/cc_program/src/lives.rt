@@ -1,176 +1,286 @@
-// The session that runs beside movers and planners.
-ghost use Rattle.std.specs.Prelude.{◌≡◌, ◌≤◌, ◌<◌, ◌+◌, map, Some, None, string_bytes, vec_len, IfOk, IfErr, IfSome, IsSome};
+// Runs with threads: a session beside movers and planners, and the service of links.
+ghost use Rattle.std.specs.Prelude.{◌≡◌, ◌≤◌, ◌<◌, ◌+◌, [], map, Some, None, string_bytes, vec_len, vec_capacity, IfOk, IfErr, IfSome, IsSome};
+ghost use Rattle.std.specs.List.{list_any};
 ghost use Rattle.cluster_json.specs.Ranges.{IsFile};
 ghost use Rattle.cluster_json.specs.Views.{file_seen};
 ghost use Rattle.control_core.specs.Books.{opened};
-ghost use Rattle.cc_program.specs.Edges.{edge, io_of};
 ghost use Rattle.cc_program.specs.Ends.{IsTold, line_of, status_of};
-ghost use Rattle.cc_program.specs.Lives.{IsLeft, IsOver, Leaves, live_command};
+ghost use Rattle.cc_program.specs.Lives.{IsLeft, IsOver, Leaves, crew_told, ended_live, live_command, live_told, outside_of, shelf, wanted};
 ghost use Rattle.cc_program.specs.declared.ends.End.{End};
+ghost use Rattle.live_service.specs.Asked.{links_of};
+ghost use Rattle.live_service.specs.Views.{link_of, net_of, served_of};
 ghost use Rattle.mover_rounds.specs.Made.{copier_of};
 
 use crate::commands::Request;
 use crate::ends::{End, conclude};
 use crate::quiet::{LoadFault, load};
-use crate::sessions::ended_by;
+use crate::sessions::{drained_end, ended_by};
 use cc_base::{Files, Link, Sink};
 use cluster_gate::{Admin, Copier, InstallFault};
 use cluster_json::ClusterFile;
 use command_words::{Command, WordsFault, Workers, read_words};
 use control_core::Book;
-use live_service::{LiveSession, Session, Unshared, run_live_session};
+use live_service::{Front, FrontEnd, Live, Served, Service, Serving, Unshared, run_live_service};
+use mover_rounds::DrainEnd;
+use net_links::Listener;
+use rest_session::{LinkEnd, SessionEnd};
 use std::alloc::Global;
 use std::sync::Wait;
 use std::thread::Threads;
 
-/// A session with movers and planners beside it.
+/// Who works over a book: movers and planners, and the links that are served. Without links the requests are those of the console.
+#[derive(Drop)]
+pub struct Crew {
+    pub workers: Workers,
+    pub serving: Option<Serving>,
+}
+
+/// A run over the cluster of a file.
 #[derive(Drop)]
 pub struct LiveRequest {
     pub file: String,
-    pub workers: Workers,
+    pub crew: Crew,
 }
 
-/// What a run with threads hands back: its status; the book, or the admin where none was begun; all copiers in their order; and the
-/// console.
+/// What a run works with outside its book: copiers, a console, and a listener.
 #[derive(Drop)]
-pub struct Ended<A: Admin, K, L> {
-    pub status: u8,
-    pub book: Option<Book<A>>,
-    pub admin: Option<A>,
+pub struct Outside<K, L, N> {
+    /// Those of the movers, then those of the links, and then that of the console and of the drain.
     pub copiers: Vec<K>,
     pub console: L,
+    pub listener: N,
 }
 
-// The same before the status is told.
+/// What a run with threads leaves.
 #[derive(Drop)]
-struct Over<A: Admin, K, L> {
-    end: End,
-    book: Option<Book<A>>,
-    admin: Option<A>,
-    copiers: Vec<K>,
-    console: L,
+pub struct Left<A: Admin, K, L, N: Listener>
+where
+    N::Conn: Drop,
+{
+    /// None where none was begun.
+    pub book: Option<Book<A>>,
+    /// The admin, where no book was begun.
+    pub admin: Option<A>,
+    pub outside: Outside<K, L, N>,
+    /// The links that were accepted, in their order.
+    pub links: Vec<Served<N::Conn>>,
 }
 
-// A run that ended before a book was begun.
-fn unbegun<A: Admin, K, L>(end: End, admin: A, copiers: Vec<K>, console: L) -> Over<A, K, L>
-    ensures end { result.end ≡ end }
+/// How a run with threads ended.
+#[derive(Drop)]
+pub struct Ended<A: Admin, K, L, N: Listener>
+where
+    N::Conn: Drop,
+{
+    pub status: u8,
+    pub left: Left<A, K, L, N>,
+}
+
+// What is left of a run that ended before a book was begun.
+fn unbegun<A: Admin, K, L, N: Listener>(
+    alloc: Global,
+    admin: A,
+    outside: Outside<K, L, N>,
+) -> Left<A, K, L, N>
+where
+    N::Conn: Drop,
     ensures book { result.book ≡ None }
     ensures admin { result.admin ≡ Some admin }
-    ensures copiers { result.copiers ≡ copiers }
-    ensures console { result.console ≡ console }
+    ensures outside { result.outside ≡ outside }
+    ensures links { result.links.items ≡ [] }
 {
-    Over {
-        end,
+    Left {
         book: None,
         admin: Some(admin),
-        copiers,
-        console,
+        outside,
+        links: Vec::new(alloc),
     }
 }
 
 // What the words ask of a run with threads.
 fn read_live(alloc: Global, words: &[String]) -> Result<LiveRequest, WordsFault>
-    ensures ok { IfOk result (λ r. live_command (map string_bytes words.now) ≡ Some (record { file = string_bytes r.file; movers = r.workers.movers; planners = r.workers.planners })) }
+    ensures ok { IfOk result (λ r. live_command (map string_bytes words.now) ≡ Some (live_told r)) }
     ensures usage { IfErr result (λ e. e ≡ WordsFault.Usage → live_command (map string_bytes words.now) ≡ None) }
 {
     match read_words(alloc, words)? {
         Command::Session(options) => Ok(LiveRequest {
             file: options.file,
-            workers: options.workers,
+            crew: Crew {
+                workers: options.workers,
+                serving: None,
+            },
+        }),
+        Command::Serve(options) => Ok(LiveRequest {
+            file: options.file,
+            crew: Crew {
+                workers: options.workers,
+                serving: Some(Serving {
+                    address: options.listen,
+                    links: options.links,
+                }),
+            },
         }),
         _ => Err(WordsFault::Usage),
     }
 }
 
-// Runs a session over a book that was just begun. The copier of the session is the one behind those of the movers.
-fn live<A: Admin + Send, K: Copier + Send + Drop, L: Link + Drop, R: Threads + Wait + Sync>(
-    rt: &R,
-    alloc: Global,
-    book: Book<A>,
-    mut copiers: Vec<K>,
-    workers: Workers,
-    console: L,
-) -> Over<A, K, L>
-    requires opened { book ≡ opened book.file book.admin }
-    requires enough { workers.movers < vec_len copiers }
-    requires few { workers.planners + workers.movers < 1048576 }
-    ensures begun { IsSome result.book }
-    ensures over { IfSome result.book (λ c. IsOver book.file workers.movers workers.planners (map (copier_of K.copies K.faults) copiers.items) (map (copier_of K.copies K.faults) result.copiers.items) (io_of L.left L.Source.faults L.Sink.faults L.written console result.console) c result.end) }
+// How many links are asked for.
+fn links_in(serving: &Option<Serving>) -> u32
+    ensures { result ≡ links_of serving.now }
 {
-    let at = workers.movers as usize;
-    let copier = copiers.remove(at);
-    let session = Session {
-        copier,
-        link: console,
-    };
-    match run_live_session(
-        rt,
-        alloc,
-        book,
-        copiers,
-        workers.movers,
-        workers.planners,
-        session,
-    ) {
-        Ok(live) => {
-            let LiveSession {
-                book,
-                mut copiers,
-                copier,
-                link,
-                end,
-            } = live;
-            let Ok(()) = copiers.insert(at, copier) else {
-                unreachable!()
-            };
-            Over {
-                end: ended_by(end),
-                book: Some(book),
-                admin: None,
-                copiers,
-                console: link,
-            }
-        }
-        Err(unshared) => {
-            let Unshared {
-                book,
-                mut copiers,
-                session,
-            } = unshared;
-            let Session { copier, link } = session;
-            let Ok(()) = copiers.insert(at, copier) else {
-                unreachable!()
-            };
-            Over {
-                end: End::Memory,
-                book: Some(book),
-                admin: None,
-                copiers,
-                console: link,
-            }
-        }
+    match serving {
+        Some(serving) => serving.links,
+        None => 0,
     }
 }
 
-// Begins a book of a file that was loaded, and runs a session over it.
-fn begin<A: Admin + Send, K: Copier + Send + Drop, L: Link + Drop, R: Threads + Wait + Sync>(
+// How many copiers stand before that of the console.
+fn copiers_before(crew: &Crew) -> usize
+    requires { crew.now.workers.movers + links_of crew.now.serving < 1048576 }
+    ensures { result ≡ crew.now.workers.movers + links_of crew.now.serving }
+{
+    (crew.workers.movers + links_in(&crew.serving)) as usize
+}
+
+// Whether there was no memory to go on with a link.
+fn is_want(end: LinkEnd) -> bool
+    ensures { result ≡ wanted end }
+{
+    matches!(end, LinkEnd::Memory)
+}
+
+// Whether there was none to go on with one of the links.
+fn any_want<C>(links: &[Served<C>]) -> bool
+    ensures { result ≡ list_any (λ served. wanted served.end) links.now }
+{
+    links.iter().any(|served| is_want(served.end))
+}
+
+// How a run ends whose front and drain ended so, where there was memory to go on with each link, or wasn't.
+fn ended_live(front: FrontEnd, want: bool, drain: DrainEnd) -> End
+    ensures { result ≡ ended_live front want drain }
+{
+    match front {
+        FrontEnd::Console(link) => ended_by(SessionEnd { link, drain }),
+        FrontEnd::Accepted if want => End::Memory,
+        FrontEnd::Accepted => drained_end(drain),
+        FrontEnd::ListenerFault => End::ListenerFault,
+    }
+}
+
+// Runs a service over a book that was just begun. The copier behind those of the movers and of the links is that of the console.
+fn live<
+    A: Admin + Send,
+    K: Copier + Send + Drop,
+    L: Link + Drop,
+    N: Listener + Send + Drop,
+    R: Threads + Wait + Sync,
+>(
+    rt: &R,
+    alloc: Global,
+    book: Book<A>,
+    outside: Outside<K, L, N>,
+    crew: Crew,
+    room: Vec<Served<N::Conn>>,
+) -> (End, Left<A, K, L, N>)
+where
+    N::Conn: Send + Drop,
+    requires opened { book ≡ opened book.file book.admin }
+    requires enough { crew.workers.movers + links_of crew.serving < vec_len outside.copiers }
+    requires few { crew.workers.planners + (crew.workers.movers + links_of crew.serving) < 1048576 }
+    requires none { room.items ≡ [] }
+    requires room { links_of crew.serving ≤ vec_capacity room }
+    ensures begun { IsSome result.1.book }
+    ensures over { IfSome result.1.book (λ c. IsOver book.file (crew_told crew) (outside_of (copier_of K.copies K.faults) (link_of L.left L.written L.Source.faults L.Sink.faults) (net_of N.faults N.accepted) outside.copiers.items outside.console outside.listener) (outside_of (copier_of K.copies K.faults) (link_of L.left L.written L.Source.faults L.Sink.faults) (net_of N.faults N.accepted) result.1.outside.copiers.items result.1.outside.console result.1.outside.listener) (map (served_of (link_of N.Conn.left N.Conn.written N.Conn.Source.faults N.Conn.Sink.faults)) result.1.links.items) c result.0) }
+{
+    let Outside {
+        mut copiers,
+        console,
+        listener,
+    } = outside;
+    let at = copiers_before(&crew);
+    let copier = copiers.remove(at);
+    let front = Front {
+        copier,
+        console,
+        service: Service {
+            listener,
+            copiers,
+            served: room,
+        },
+    };
+    let Crew { workers, serving } = crew;
+    let (book, front, ended) = match run_live_service(
+        rt,
+        alloc,
+        book,
+        workers.movers,
+        workers.planners,
+        front,
+        serving,
+    ) {
+        Ok(live) => {
+            let want = any_want(&live.front.service.served);
+            let ended = ended_live(live.end, want, live.drain);
+            (live.book, live.front, ended)
+        }
+        Err(unshared) => (unshared.book, unshared.front, End::Memory),
+    };
+    let Front {
+        copier,
+        console,
+        service,
+    } = front;
+    let Service {
+        listener,
+        mut copiers,
+        served,
+    } = service;
+    let Ok(()) = copiers.insert(at, copier) else {
+        unreachable!()
+    };
+    let left = Left {
+        book: Some(book),
+        admin: None,
+        outside: Outside {
+            copiers,
+            console,
+            listener,
+        },
+        links: served,
+    };
+    (ended, left)
+}
+
+// Begins a book of a file that was loaded, and runs a service over it. Room for the links is taken first.
+fn begin<
+    A: Admin + Send,
+    K: Copier + Send + Drop,
+    L: Link + Drop,
+    N: Listener + Send + Drop,
+    R: Threads + Wait + Sync,
+>(
     rt: &R,
     alloc: Global,
     file: ClusterFile,
     admin: A,
-    copiers: Vec<K>,
-    workers: Workers,
-    console: L,
-) -> Over<A, K, L>
+    outside: Outside<K, L, N>,
+    crew: Crew,
+) -> (End, Left<A, K, L, N>)
+where
+    N::Conn: Send + Drop,
     requires file { IsFile file }
-    requires enough { workers.movers < vec_len copiers }
-    requires few { workers.planners + workers.movers < 1048576 }
-    ensures left { IsLeft A.faults (file_seen file) workers.movers workers.planners (map (copier_of K.copies K.faults) copiers.items) (map (copier_of K.copies K.faults) result.copiers.items) (io_of L.left L.Source.faults L.Sink.faults L.written console result.console) admin result.admin result.book result.end }
+    requires enough { crew.workers.movers + links_of crew.serving < vec_len outside.copiers }
+    requires few { crew.workers.planners + (crew.workers.movers + links_of crew.serving) < 1048576 }
+    ensures left { IsLeft A.faults (file_seen file) (crew_told crew) (outside_of (copier_of K.copies K.faults) (link_of L.left L.written L.Source.faults L.Sink.faults) (net_of N.faults N.accepted) outside.copiers.items outside.console outside.listener) (outside_of (copier_of K.copies K.faults) (link_of L.left L.written L.Source.faults L.Sink.faults) (net_of N.faults N.accepted) result.1.outside.copiers.items result.1.outside.console result.1.outside.listener) (map (served_of (link_of N.Conn.left N.Conn.written N.Conn.Source.faults N.Conn.Sink.faults)) result.1.links.items) admin result.1.admin result.1.book result.0 }
 {
+    let Ok(room) = Vec::with_capacity(alloc, links_in(&crew.serving) as usize) else {
+        return (End::Memory, unbegun(alloc, admin, outside));
+    };
     match Book::begin(alloc, file, admin) {
-        Ok(book) => live(rt, alloc, book, copiers, workers, console),
-        Err((InstallFault::Failed, admin)) => unbegun(End::NotDrained, admin, copiers, console),
-        Err((InstallFault::Memory, admin)) => unbegun(End::Memory, admin, copiers, console),
+        Ok(book) => live(rt, alloc, book, outside, crew, room),
+        Err((InstallFault::Failed, admin)) => (End::NotDrained, unbegun(alloc, admin, outside)),
+        Err((InstallFault::Memory, admin)) => (End::Memory, unbegun(alloc, admin, outside)),
     }
 }
 
@@ -179,6 +289,7 @@ fn run<
     A: Admin + Send,
     K: Copier + Send + Drop,
     L: Link + Drop,
+    N: Listener + Send + Drop,
     R: Threads + Wait + Sync,
 >(
     rt: &R,
@@ -186,34 +297,34 @@ fn run<
     words: &[String],
     files: &mut F,
     admin: A,
-    copiers: Vec<K>,
-    console: L,
-) -> Over<A, K, L>
+    outside: Outside<K, L, N>,
+) -> (End, Left<A, K, L, N>)
+where
+    N::Conn: Send + Drop,
     ensures files { F.faults files.old ≤ F.faults files.new }
-    ensures leaves { Leaves A.faults (map string_bytes words.now) (edge F.contents F.faults files.old files.new (io_of L.left L.Source.faults L.Sink.faults L.written console result.console)) (map (copier_of K.copies K.faults) copiers.items) (map (copier_of K.copies K.faults) result.copiers.items) admin result.admin result.book result.end }
+    ensures leaves { Leaves A.faults (map string_bytes words.now) (shelf F.contents F.faults files.old files.new) (outside_of (copier_of K.copies K.faults) (link_of L.left L.written L.Source.faults L.Sink.faults) (net_of N.faults N.accepted) outside.copiers.items outside.console outside.listener) (outside_of (copier_of K.copies K.faults) (link_of L.left L.written L.Source.faults L.Sink.faults) (net_of N.faults N.accepted) result.1.outside.copiers.items result.1.outside.console result.1.outside.listener) (map (served_of (link_of N.Conn.left N.Conn.written N.Conn.Source.faults N.Conn.Sink.faults)) result.1.links.items) admin result.1.admin result.1.book result.0 }
 {
-    let request = match read_live(alloc, words) {
+    let LiveRequest { file, crew } = match read_live(alloc, words) {
         Ok(request) => request,
-        Err(WordsFault::Usage) => return unbegun(End::Usage, admin, copiers, console),
-        Err(WordsFault::Memory) => return unbegun(End::Memory, admin, copiers, console),
+        Err(WordsFault::Usage) => return (End::Usage, unbegun(alloc, admin, outside)),
+        Err(WordsFault::Memory) => return (End::Memory, unbegun(alloc, admin, outside)),
     };
-    if copiers.len() <= request.workers.movers as usize {
-        return unbegun(End::Usage, admin, copiers, console);
+    if outside.copiers.len() <= copiers_before(&crew) {
+        return (End::Usage, unbegun(alloc, admin, outside));
     }
-    let LiveRequest { file, workers } = request;
-    let source = Request::Session { file };
-    match load(alloc, files, &source) {
-        Ok(file) => begin(rt, alloc, file, admin, copiers, workers, console),
-        Err(LoadFault::Refused(line)) => unbegun(End::Refused(line), admin, copiers, console),
-        Err(LoadFault::Failed) => unbegun(End::FileFault, admin, copiers, console),
-        Err(LoadFault::Memory) => unbegun(End::Memory, admin, copiers, console),
+    match load(alloc, files, &Request::Session { file }) {
+        Ok(file) => begin(rt, alloc, file, admin, outside, crew),
+        Err(LoadFault::Refused(line)) => (End::Refused(line), unbegun(alloc, admin, outside)),
+        Err(LoadFault::Failed) => (End::FileFault, unbegun(alloc, admin, outside)),
+        Err(LoadFault::Memory) => (End::Memory, unbegun(alloc, admin, outside)),
     }
 }
 
-/// Runs a session over a book that its requests, movers and planners share, and answers with its status: 0 where it is done, 2 for words
-/// that are no such command or ask more movers than there are copiers beside that of the session, 3 for a file that is refused, 5 for
-/// a fault of the files, 6 and 7 for a fault of the input and of the output, 8 where the admin's fault left work unfinished, 9 out of
-/// memory, and 10 for an input that ended inside a request or couldn't be framed. The replies go to the console one after another. One
+/// Runs `session` beside movers and planners, or `serve`, over a book that requests, movers and planners share, and answers with its
+/// status: 0 where it is done, 2 for words that are no such command or ask for more movers and links than there are copiers beside that
+/// of the console, 3 for a file that is refused, 5 for a fault of the files, 6 and 7 for a fault of the input and of the output, 8 where
+/// the admin's fault left work unfinished, 9 out of memory, 10 for an input that ended inside a request or couldn't be framed, and 12
+/// for a fault of the listener. `serve` neither reads nor writes the console, and a link that ends by a fault changes no status. One
 /// line on any end but 0 goes to `err`.
 pub fn run_live<
     F: Files,
@@ -221,6 +332,7 @@ pub fn run_live<
     A: Admin + Send,
     K: Copier + Send + Drop,
     L: Link + Drop,
+    N: Listener + Send + Drop,
     R: Threads + Wait + Sync,
 >(
     rt: &R,
@@ -229,27 +341,19 @@ pub fn run_live<
     files: &mut F,
     err: &mut O,
     admin: A,
-    copiers: Vec<K>,
-    console: L,
-) -> Ended<A, K, L>
+    outside: Outside<K, L, N>,
+) -> Ended<A, K, L, N>
+where
+    N::Conn: Send + Drop,
     // How it ended, with what stands behind that end, and its line on the error stream, or a prefix of the line where that fails.
-    ensures ended { (end : End) × (result.status ≡ status_of end) × Leaves A.faults (map string_bytes words.now) (edge F.contents F.faults files.old files.new (io_of L.left L.Source.faults L.Sink.faults L.written console result.console)) (map (copier_of K.copies K.faults) copiers.items) (map (copier_of K.copies K.faults) result.copiers.items) admin result.admin result.book end
+    ensures ended { (end : End) × (result.status ≡ status_of end) × Leaves A.faults (map string_bytes words.now) (shelf F.contents F.faults files.old files.new) (outside_of (copier_of K.copies K.faults) (link_of L.left L.written L.Source.faults L.Sink.faults) (net_of N.faults N.accepted) outside.copiers.items outside.console outside.listener) (outside_of (copier_of K.copies K.faults) (link_of L.left L.written L.Source.faults L.Sink.faults) (net_of N.faults N.accepted) result.left.outside.copiers.items result.left.outside.console result.left.outside.listener) (map (served_of (link_of N.Conn.left N.Conn.written N.Conn.Source.faults N.Conn.Sink.faults)) result.left.links.items) admin result.left.admin result.left.book end
         × IsTold (line_of end) (O.written err.old) (O.written err.new) (O.faults err.old) (O.faults err.new) }
     ensures files_later { F.faults files.old ≤ F.faults files.new }
     ensures err_later { O.faults err.old ≤ O.faults err.new }
 {
-    let Over {
-        end,
-        book,
-        admin,
-        copiers,
-        console,
-    } = run(rt, alloc, words, files, admin, copiers, console);
+    let (end, left) = run(rt, alloc, words, files, admin, outside);
     Ended {
         status: conclude(err, &end),
-        book,
-        admin,
-        copiers,
-        console,
+        left,
     }
 }

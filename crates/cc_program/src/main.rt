@@ -23,8 +23,9 @@ use cc_base::{Files, HostFiles, HostSink, HostSource, HostStream, Joined, Link, 
 use cluster_gate::{MemoryCluster, MemoryCopier};
 use command_words::wants_live;
 use ends::{End, conclude};
-use lives::run_live;
+use lives::{Outside, run_live};
 use load_model::Memory;
+use net_links::{HostListener, Listener};
 use quiet::run_quiet;
 use std::alloc::Global;
 use std::io::ErrorKind;
@@ -71,41 +72,64 @@ fn copiers(alloc: Global) -> Result<Vec<MemoryCopier>, Memory> {
 }
 
 // Runs words that want a run with threads, over a cluster in memory.
-fn run_threads<R: Threads + Wait + Sync, F: Files, L: Link + Drop, O: Sink>(
+fn run_threads<
+    R: Threads + Wait + Sync,
+    F: Files,
+    L: Link + Drop,
+    N: Listener + Send + Drop,
+    O: Sink,
+>(
     rt: &R,
     alloc: Global,
     words: &[String],
     files: &mut F,
     console: L,
+    listener: N,
     err: &mut O,
 ) -> ExitCode
+where
+    N::Conn: Send + Drop,
     ensures { (end : End) × (exit_status result ≡ status_of end)
         × IsTold (line_of end) (O.written err.old) (O.written err.new) (O.faults err.old) (O.faults err.new) }
 {
     let Ok(copiers) = copiers(alloc) else {
         return exit_code(conclude(err, &End::Memory));
     };
+    let outside = Outside {
+        copiers,
+        console,
+        listener,
+    };
     let admin = MemoryCluster::new(alloc);
-    let ended = run_live(rt, alloc, words, files, err, admin, copiers, console);
+    let ended = run_live(rt, alloc, words, files, err, admin, outside);
     exit_code(ended.status)
 }
 
 // Runs the words, if they can be had. The code is the status of how that ended, and the error stream has its line.
-fn run_words<R: Threads + Wait + Sync, F: Files, L: Link + Drop, O: Sink>(
+fn run_words<
+    R: Threads + Wait + Sync,
+    F: Files,
+    L: Link + Drop,
+    N: Listener + Send + Drop,
+    O: Sink,
+>(
     rt: &R,
     alloc: Global,
     words: io::Result<Vec<String>>,
     files: &mut F,
     mut console: L,
+    listener: N,
     err: &mut O,
 ) -> ExitCode
+where
+    N::Conn: Send + Drop,
     ensures { (end : End) × (exit_status result ≡ status_of end)
         × IsTold (line_of end) (O.written err.old) (O.written err.new) (O.faults err.old) (O.faults err.new) }
 {
     match words {
         Ok(words) => {
             if wants_live(&words) {
-                return run_threads(rt, alloc, &words, files, console, err);
+                return run_threads(rt, alloc, &words, files, console, listener, err);
             }
             exit_code(run_quiet(rt, alloc, &words, files, &mut console, err))
         }
@@ -120,7 +144,16 @@ fn main(rt: HostRuntime) -> ExitCode {
     let output = HostSink::new(HostStream::Out(rt.stdout()));
     let console = Joined::new(input, output);
     let mut err = HostSink::new(HostStream::Err(rt.stderr()));
-    run_words(&rt, rt.alloc(), words, &mut files, console, &mut err)
+    let listener = HostListener::new(rt);
+    run_words(
+        &rt,
+        rt.alloc(),
+        words,
+        &mut files,
+        console,
+        listener,
+        &mut err,
+    )
 }
 
 #[cfg(test)]

@@ -17,8 +17,8 @@ use mover_rounds::DrainEnd;
 use rest_session::{LinkEnd, SessionEnd, run_session};
 use std::alloc::Global;
 
-// How a run ends whose link ended well.
-fn drained_end(drain: DrainEnd) -> End
+/// How a run ends whose link ended well.
+pub fn drained_end(drain: DrainEnd) -> End
     ensures { result ≡ drained_end drain }
 {
     match drain {

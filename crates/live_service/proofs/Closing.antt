@@ -1,5 +1,5 @@
 -- Close, asked by a front.
-use Rattle.std.proofs.Common.{◌≡◌, ◌<◌, ℕ, zero, suc, Bool, true, false, not, ◌||◌, List, [], ◌∷◌, ◌++◌, refl, ap, sym, ◌∙◌, subst, append_assoc, append-nil, arith, inl, inr}
+use Rattle.std.proofs.Common.{◌≡◌, zero, suc, Bool, true, false, not, ◌||◌, List, [], ◌∷◌, ◌++◌, refl, ap, sym, ◌∙◌, subst, arith, inl, inr}
 use Rattle.std.specs.Prelude.{Result, Ok, Err, IfOk, IfErr}
 use Rattle.std.specs.List.{list_any}
 use Rattle.std.proofs.lemmas.List.Folds.{list_any-append}
@@ -14,7 +14,7 @@ use Rattle.core_terms.specs.declared.faults.StepFault.{StepFault}
 use Rattle.core_terms.specs.declared.faults.StepFault.TheVariants.{AdminFault, Memory}
 use Rattle.core_terms.specs.declared.replies.Reply.{Reply}
 use Rattle.turn_book.specs.Known.{HasActed, IsRefused}
-use Rattle.live_service.specs.Fronts.{HasClosed, HasServedAll, IsClosed, WasClosed}
+use Rattle.live_service.specs.Closing.{IsClosed}
 use Rattle.live_service.specs.Workers.{Pass}
 
 not_false : (b : Bool) → not b ≡ false → b ≡ true

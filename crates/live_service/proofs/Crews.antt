@@ -1,6 +1,6 @@
 -- Workers, one beside another.
-use Rattle.std.proofs.Common.{◌≡◌, ◌<◌, ℕ, ◌+◌, suc, slice_index_or, List, [], ◌∷◌, ◌++◌, length, map, refl, ap, sym, ◌∙◌, subst, append_assoc, append-nil, arith}
-use Rattle.std.specs.List.{AllByRecursion, remove}
+use Rattle.std.proofs.Common.{◌≡◌, ◌<◌, ℕ, suc, slice_index_or, List, [], ◌∷◌, ◌++◌, length, map, refl, ap, sym, ◌∙◌, subst, append_assoc, append-nil, arith}
+use Rattle.std.specs.List.{remove}
 use mathlib.Core.List.{IsPrefix}
 use Rattle.cluster_json.specs.File.{Meaning}
 use Rattle.core_terms.specs.declared.events.Event.{Event}
@@ -8,6 +8,7 @@ use Rattle.mover_rounds.specs.Made.{Copies}
 use Rattle.mover_rounds.proofs.Prefixes.{prefix_self, prefix_trans}
 use Rattle.mover_workers.specs.Callers.{IsLater}
 use Rattle.turn_book.specs.Known.{HasJoined, IsCut}
+use Rattle.turn_book.specs.Rule.{ArePlaced}
 use Rattle.live_service.specs.Workers.{AllSaw, HasMovedOnce, HasPlannedOnce, HasRun, HasRunAll, HasShares, Mover, Pass, Planner, shares_of}
 
 saw_on : (h g : List Event) → IsPrefix h g → (ps : List Pass) → AllSaw h ps → AllSaw g ps
@@ -46,19 +47,21 @@ later_joined v kept own u back w cut p q joined = record {
 }
 
 -- no mover yet, and no planner
-pub run_alone : (Did : Pass → Pass → Type 0) (file : Meaning) (v w : Pass) (others : List Copies) → Did v w → HasRun Did file v w others others 0
-run_alone Did file v w others d = record {
+pub run_alone : (Did : List Copies → List Copies → Pass → Pass → Type 0) (file : Meaning) (v w : Pass) (old new : List Copies) → Did old new v w → HasRun Did file v w old new 0
+run_alone Did file v w old new d = record {
   begun = v;
   same = refl;
-  front = w;
+  over = w;
+  others_old = old;
+  others_new = new;
   did = d;
-  movers = record { movers = []; others = others; are = tt; count_is = refl; old_are = refl; new_are = refl; shares = shares_none w };
+  movers = record { movers = []; are = tt; count_is = refl; old_are = refl; new_are = refl; shares = shares_none w };
 }
 
-pub run_all_alone : (Did : Pass → Pass → Type 0) (file : Meaning) (v w : Pass) (old new : List Copies) (movers : ℕ) → HasRun Did file v w old new movers → HasRunAll Did file v w old new movers 0
+pub run_all_alone : (Did : List Copies → List Copies → Pass → Pass → Type 0) (file : Meaning) (v w : Pass) (old new : List Copies) (movers : ℕ) → HasRun Did file v w old new movers → HasRunAll Did file v w old new movers 0
 run_all_alone Did file v w old new movers r = record { between = w; run = r; planners = record { planners = []; are = tt; count_is = refl; shares = shares_none w } }
 
-module _ (Did : Pass → Pass → Type 0) (file : Meaning) (v kept own u back w : Pass) (cut : IsCut v kept own) (joined : HasJoined u back w) where
+module _ (Did : List Copies → List Copies → Pass → Pass → Type 0) (file : Meaning) (v kept own u back w : Pass) (cut : IsCut v kept own) (joined : HasJoined u back w) (placed : ArePlaced back.seen back.mine) where
   -- one mover more
   pub run_more : (old new : List Copies) (k l : Copies) (n m : ℕ) → m ≡ suc n → HasRun Did file kept u old new n → HasMovedOnce file own back k l → HasRun Did file v w (k ∷ old) (l ∷ new) m
   run_more old new k l n m e r moved =
@@ -66,16 +69,17 @@ module _ (Did : Pass → Pass → Type 0) (file : Meaning) (v kept own u back w 
       record {
         begun = r.begun;
         same = r.same ∙ cut.mine.0;
-        front = r.front;
+        over = r.over;
+        others_old = r.others_old;
+        others_new = r.others_new;
         did = r.did;
         movers = record {
           movers = one ∷ r.movers.movers;
-          others = r.movers.others;
-          are = (record { fresh = cut.mine.1; moved = moved.1 }, r.movers.are);
+          are = (record { fresh = cut.mine.1; placed = placed; moved = moved.1 }, r.movers.are);
           count_is = ap suc r.movers.count_is ∙ sym e;
           old_are = ap (λ (xs : List Copies). k ∷ xs) r.movers.old_are;
           new_are = ap (λ (xs : List Copies). l ∷ xs) r.movers.new_are;
-          shares = shares_more r.front u back w (map (λ (x : Mover). x.back) r.movers.movers) joined r.movers.shares;
+          shares = shares_more r.over u back w (map (λ (x : Mover). x.back) r.movers.movers) joined r.movers.shares;
         };
       }
 
@@ -85,10 +89,18 @@ module _ (Did : Pass → Pass → Type 0) (file : Meaning) (v kept own u back w 
       let one : Planner = record { given = own; back = back; end = planned.0 } in
       record {
         between = r.between;
-        run = record { begun = r.run.begun; same = r.run.same ∙ cut.mine.0; front = r.run.front; did = r.run.did; movers = r.run.movers };
+        run = record {
+          begun = r.run.begun;
+          same = r.run.same ∙ cut.mine.0;
+          over = r.run.over;
+          others_old = r.run.others_old;
+          others_new = r.run.others_new;
+          did = r.run.did;
+          movers = r.run.movers;
+        };
         planners = record {
           planners = one ∷ r.planners.planners;
-          are = (record { fresh = cut.mine.1; planned = planned.1 }, r.planners.are);
+          are = (record { fresh = cut.mine.1; placed = placed; planned = planned.1 }, r.planners.are);
           count_is = ap suc r.planners.count_is ∙ sym e;
           shares = shares_more r.between u back w (map (λ (x : Planner). x.back) r.planners.planners) joined r.planners.shares;
         };

@@ -1,4 +1,5 @@
 pub mod Crews
+pub mod Accepting
 pub mod Closing
 pub mod Sharing
 pub mod Unclosed

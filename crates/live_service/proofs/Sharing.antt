@@ -1,8 +1,6 @@
 -- The journal of a shared book.
-use Rattle.std.proofs.Common.{◌≡◌, ◌≤◌, ◌⊎◌, inl, inr, ℕ, ◌+◌, true, List, [], ◌∷◌, ◌++◌, length, refl, ap, sym, ◌∙◌, subst, arith}
+use Rattle.std.proofs.Common.{◌≡◌, ◌≤◌, ◌⊎◌, inl, inr, ℕ, ◌+◌, true, List, [], length, ap, sym, subst, arith}
 use Rattle.std.specs.List.{list_any}
-use Rattle.std.specs.Prelude.{Option}
-use mathlib.Core.List.{IsPrefix}
 use Rattle.std.proofs.lemmas.Bool.{cases_lt}
 use Rattle.cc_base.specs.Outside.{HasRisen}
 use Rattle.cluster_json.specs.File.{Meaning}
@@ -12,10 +10,9 @@ use Rattle.core_terms.specs.declared.events.Event.{Event}
 use Rattle.mover_rounds.specs.Made.{Copies}
 use Rattle.mover_rounds.specs.Owned.{IsSince}
 use Rattle.mover_rounds.proofs.Prefixes.{prefix_trans}
-use Rattle.rest_session.specs.declared.session.LinkEnd.{LinkEnd}
 use Rattle.turn_book.specs.Known.{IsWhole}
 use Rattle.turn_book.specs.Rule.{once_below, times}
-use Rattle.live_service.specs.Fronts.{HasServedAll}
+use Rattle.live_service.specs.Closing.{HasFronted}
 use Rattle.live_service.specs.Live.{AreAllOf, IsShared}
 use Rattle.live_service.specs.Workers.{HasRunAll, Pass}
 use Rattle.live_service.proofs.Closing.{any_in, was_asked}
@@ -27,20 +24,20 @@ all_of b c w empty whole = record {
   placed = whole.placed;
 }
 
-pub shared_by : {A : Type 0} (Did : Pass → Pass → Type 0) (b c : BookView A) (given w : Pass) (old new : List Copies) (movers planners : ℕ) → b.journal ≡ [] → given.mine ≡ [] → HasRunAll Did b.file given w old new movers planners
+pub shared_by : {A : Type 0} (Did : List Copies → List Copies → Pass → Pass → Type 0) (b c : BookView A) (given w : Pass) (old new : List Copies) (movers planners : ℕ) → b.journal ≡ [] → given.mine ≡ [] → HasRunAll Did b.file given w old new movers planners
     → IsWhole (λ x. x.file) (λ x. x.journal) (λ x. x.failures) b w c → IsShared Did b c old new movers planners
 shared_by Did b c given w old new movers planners empty fresh run whole = record { given = given; fresh = fresh; back = w; run = run; file_is = whole.opening_is; shares = all_of b c w empty whole; saw = whole.seen }
 
--- Close stands in the journal of a session that was shared
-pub is_closed : {A : Type 0} (b c : BookView A) (old new : List Copies) (movers planners : ℕ) (file : Meaning) (k l : Copies) (left was now : Option (List ℕ)) (end : LinkEnd)
-    → IsShared (λ v w. HasServedAll file v w k l left was now end) b c old new movers planners → list_any is_close c.journal ≡ true
-is_closed b c old new movers planners file k l left was now end h =
+-- Close stands in the journal of a front that was shared
+pub is_closed : {A : Type 0} (Answered : List Copies → List Copies → Pass → Pass → Type 0) (b c : BookView A) (old new : List Copies) (movers planners : ℕ) → IsShared (λ xs ys. HasFronted (Answered xs ys)) b c old new movers planners
+    → list_any is_close c.journal ≡ true
+is_closed Answered b c old new movers planners h =
     let r = h.run.run in
-    let first = prefix_trans r.front.seen h.run.between.seen h.back.seen r.movers.shares.longer h.run.planners.shares.longer in
-    any_in r.front.seen c.journal (prefix_trans r.front.seen h.back.seen c.journal first h.saw) (was_asked r.did.served r.front r.did.closed)
+    let first = prefix_trans r.over.seen h.run.between.seen h.back.seen r.movers.shares.longer h.run.planners.shares.longer in
+    any_in r.over.seen c.journal (prefix_trans r.over.seen h.back.seen c.journal first h.saw) (was_asked r.did.served r.over r.did.closed)
 
 -- the same of a book that the turn was made with
-pub shared_from : {A : Type 0} (Did : Meaning → Pass → Pass → Type 0) (start b c : BookView A) (given w : Pass) (old new : List Copies) (movers planners : ℕ) → start ≡ b → b.journal ≡ [] → given.mine ≡ []
+pub shared_from : {A : Type 0} (Did : Meaning → List Copies → List Copies → Pass → Pass → Type 0) (start b c : BookView A) (given w : Pass) (old new : List Copies) (movers planners : ℕ) → start ≡ b → b.journal ≡ [] → given.mine ≡ []
     → HasRunAll (Did start.file) start.file given w old new movers planners → IsWhole (λ x. x.file) (λ x. x.journal) (λ x. x.failures) start w c → IsShared (Did b.file) b c old new movers planners
 shared_from {A} Did start b c given w old new movers planners same empty fresh run whole =
     subst (λ (x : BookView A). IsShared (Did x.file) x c old new movers planners) same

@@ -1,6 +1,6 @@
--- No entry of a link, of a mover or of a planner asks Close, so the Close of a session is the only one.
-use Rattle.std.proofs.Common.{◌≡◌, ◌⊎◌, ◌<◌, ℕ, ◌+◌, zero, suc, Bool, true, false, ◌==◌, List, [], ◌∷◌, ◌++◌, length, map, refl, ap, sym, ◌∙◌, subst, arith, inl, inr}
-use Rattle.std.specs.Prelude.{if◌then◌else◌, Option, Some, None, Result, Ok, Err, slice_get}
+-- No entry of a console, of a link, of a mover or of a planner asks Close, so the Close of a front is the only one.
+use Rattle.std.proofs.Common.{◌≡◌, ◌⊎◌, ◌<◌, ℕ, zero, suc, Bool, true, false, List, [], ◌∷◌, ◌++◌, length, map, refl, ap, sym, ◌∙◌, subst, arith, inl, inr}
+use Rattle.std.specs.Prelude.{Option, Some, None, Result, Ok, Err, slice_get}
 use Rattle.std.specs.List.{AllByRecursion, list_any}
 use Rattle.std.proofs.lemmas.Bool.{cases_lt, eq-eqb}
 use Rattle.std.proofs.lemmas.Bool.Decides.{eqb_tells}
@@ -21,17 +21,20 @@ use Rattle.mover_rounds.specs.Asked.{Entry, Rules, entries_of, reply_to}
 use Rattle.mover_rounds.specs.Made.{Copies, joined}
 use Rattle.mover_rounds.specs.Rounds.{IsPlanRound, done, look, undone}
 use Rattle.mover_workers.specs.Callers.{known_by_pass}
-use Rattle.mover_workers.specs.Loops.{AreUnitsThen, HasMoved, HasPlanned, IsMoveUnit, IsPlanUnit, last_of}
-use Rattle.mover_workers.specs.Steps.{IsBehindIdle, IsIdleFor, IsIdleStep, IsLook, IsPlanStep, IsWorkStep, MoveStep, PlanStep}
-use Rattle.mover_workers.specs.declared.loops.LoopEnd.{LoopEnd}
+use Rattle.mover_workers.specs.Loops.{AreUnitsThen, IsMoveUnit, IsPlanUnit, last_of}
+use Rattle.mover_workers.specs.Steps.{IsBehindIdle, IsIdleFor, IsIdleStep, IsLook, IsPlanStep, IsWorkStep, MoveStep}
 use Rattle.mover_workers.specs.declared.steps.Step.{Step}
 use Rattle.mover_workers.specs.declared.steps.Step.TheVariants.{Closed, Done, Idle}
-use Rattle.rest_session.proofs.Unclosed.{AreOpen, IsOpen, both_open, pieces_open, plan_open, work_open}
+use Rattle.rest_session.proofs.Unclosed.{AreOpen, both_open, pieces_open, plan_open, work_open}
 use Rattle.rest_session.specs.Answered.{HasServed}
 use Rattle.rest_session.specs.declared.session.LinkEnd.{LinkEnd}
-use Rattle.turn_book.specs.Rule.{ArePlaced, once_below, times}
-use Rattle.live_service.specs.Fronts.{HasClosed, HasServedAll, IsClosed, IsSessionShare}
+use Rattle.turn_book.specs.Rule.{once_below, times}
+use Rattle.live_service.specs.Closing.{HasFronted, IsClosed}
+use Rattle.live_service.specs.Fronts.{HasAnswered, HasClosed, HasServedNet, IsFront, IsLinkRun, LinkRun}
 use Rattle.live_service.specs.Live.{AreAllOf, IsShared}
+use Rattle.live_service.specs.Views.{FrontView, ServedView}
+use Rattle.live_service.specs.declared.front.FrontEnd.{FrontEnd}
+use Rattle.live_service.specs.declared.front.FrontEnd.TheVariants as front
 use Rattle.live_service.specs.Workers.{IsMover, IsPlanner, Mover, Pass, Planner, shares_of}
 use Rattle.live_service.proofs.Sharing.{is_closed}
 
@@ -142,6 +145,21 @@ module _ (file : Meaning) where
   planners_open [] h = tt
   planners_open (p ∷ ps) h = both_at (shares_of (map (λ x. x.back) ps)) p.back.mine (planners_open ps h.1) (planner_open p h.0)
 
+  links_open : (rs : List LinkRun) → AllByRecursion (IsLinkRun file) rs → AreOpenAt (shares_of (map (λ r. r.back) rs))
+  links_open [] h = tt
+  links_open (r ∷ rs) h = both_at (shares_of (map (λ x. x.back) rs)) r.back.mine (links_open rs h.1) (served_open r.given r.back r.old r.new r.before.left r.before.written r.after.written r.end h.0.fresh h.0.answered)
+
+  net_open : (f g : FrontView) (old new : List Copies) (links : List ServedView) (v w : Pass) → v.mine ≡ [] → HasServedNet file f g old new links v w → AreOpenAt w.mine
+  net_open f g old new links v w fresh h = subst AreOpenAt (sym (h.served.shares.mine ∙ ap (λ (m : List (ℕ × Event)). m ++ shares_of (map (λ (r : LinkRun). r.back) h.served.runs)) fresh)) (links_open h.served.runs h.served.are)
+
+  pub answered_open : (asked : Option ℕ) (f g : FrontView) (links : List ServedView) (end : FrontEnd) (old new : List Copies) (v w : Pass) → v.mine ≡ [] → HasAnswered file asked f g links end old new v w → AreOpenAt w.mine
+  answered_open None f g links (front.Console end) old new v w fresh h = served_open v w f.copier g.copier f.console.left f.console.written g.console.written end fresh h.0.answered
+  answered_open (Some n) f g links front.Accepted old new v w fresh h = net_open f g old new links v w fresh h.0
+  answered_open (Some n) f g links front.ListenerFault old new v w fresh h = net_open f g old new links v w fresh h.0
+  answered_open None f g links front.Accepted old new v w fresh h = absurd h
+  answered_open None f g links front.ListenerFault old new v w fresh h = absurd h
+  answered_open (Some n) f g links (front.Console end) old new v w fresh h = absurd h
+
 -- ---- a journal whose places are these
 
 seen_once : (x n : ℕ) → x < n → 0 < once_below x n
@@ -175,19 +193,19 @@ journal_open journal mine all free = all_open journal (λ x e at.
     let same : found.1.1 ≡ e = (let h : Some found.1.1 ≡ Some e = sym stands ∙ at in cc) in
     subst (λ (y : Event). is_close y ≡ false) same (open_at mine found.0 found.1 free found.2))
 
--- so a session that wasn't taken its Close is none: it asked the only one
-module _ {A : Type 0} (b c : BookView A) (old new : List Copies) (movers planners : ℕ) (k l : Copies) (left was now : Option (List ℕ)) (end : LinkEnd) where
-  session_closes : (h : IsShared (λ v w. HasServedAll b.file v w k l left was now end) b c old new movers planners) → IsClosed h.run.run.did.served h.run.run.front → HasClosed h.run.run.did.served h.run.run.front
-  session_closes h (inl asked) = asked
-  session_closes h (inr none) =
+-- so a front whose Close wasn't taken is none: it asked the only one
+module _ {A : Type 0} (asked : Option ℕ) (f g : FrontView) (links : List ServedView) (end : FrontEnd) (b c : BookView A) (old new : List Copies) (movers planners : ℕ) where
+  front_closes : (h : IsShared (λ xs ys. HasFronted (HasAnswered b.file asked f g links end xs ys)) b c old new movers planners) → IsClosed h.run.run.did.served h.run.run.over → HasClosed h.run.run.did.served h.run.run.over
+  front_closes h (inl closed) = closed
+  front_closes h (inr none) =
       let r = h.run.run in
       let fresh : r.begun.mine ≡ [] = r.same ∙ h.fresh in
-      let served : AreOpenAt r.front.mine = subst AreOpenAt (sym none.mine) (served_open b.file r.begun r.did.served k l left was now end fresh r.did.answered) in
-      let moved : AreOpenAt h.run.between.mine = subst AreOpenAt (sym r.movers.shares.mine) (both_at r.front.mine _ served (movers_open b.file r.movers.movers r.movers.are)) in
+      let served : AreOpenAt r.over.mine = subst AreOpenAt (sym none.mine) (answered_open b.file asked f g links end r.others_old r.others_new r.begun r.did.served fresh r.did.answered) in
+      let moved : AreOpenAt h.run.between.mine = subst AreOpenAt (sym r.movers.shares.mine) (both_at r.over.mine _ served (movers_open b.file r.movers.movers r.movers.are)) in
       let all : AreOpenAt h.back.mine = subst AreOpenAt (sym h.run.planners.shares.mine) (both_at h.run.between.mine _ moved (planners_open b.file h.run.planners.planners h.run.planners.are)) in
-      absurd (let one = journal_open c.journal h.back.mine h.shares all in let other = is_closed b c old new movers planners b.file k l left was now end h in (let f : false ≡ true = sym one ∙ other in cc))
+      absurd (let one = journal_open c.journal h.back.mine h.shares all in let other = is_closed (HasAnswered b.file asked f g links end) b c old new movers planners h in (let f : false ≡ true = sym one ∙ other in cc))
 
-  pub closes_once : IsShared (λ v w. HasServedAll b.file v w k l left was now end) b c old new movers planners → IsShared (λ v w. IsSessionShare b.file v w k l left was now end) b c old new movers planners
+  pub closes_once : IsShared (λ xs ys. HasFronted (HasAnswered b.file asked f g links end xs ys)) b c old new movers planners → IsShared (λ xs ys. IsFront (HasAnswered b.file asked f g links end xs ys)) b c old new movers planners
   closes_once h = record {
     given = h.given;
     fresh = h.fresh;
@@ -197,8 +215,10 @@ module _ {A : Type 0} (b c : BookView A) (old new : List Copies) (movers planner
       run = record {
         begun = h.run.run.begun;
         same = h.run.run.same;
-        front = h.run.run.front;
-        did = record { served = h.run.run.did.served; answered = h.run.run.did.answered; closed = session_closes h h.run.run.did.closed };
+        over = h.run.run.over;
+        others_old = h.run.run.others_old;
+        others_new = h.run.run.others_new;
+        did = record { served = h.run.run.did.served; placed = h.run.run.did.placed; answered = h.run.run.did.answered; closed = front_closes h h.run.run.did.closed };
         movers = h.run.run.movers;
       };
       planners = h.run.planners;

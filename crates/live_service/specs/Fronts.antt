@@ -1,18 +1,97 @@
--- What a front makes while the workers run, and the Close behind it.
-use Rattle.std.specs.Prelude.{◌≡◌, ◌⊎◌, ◌≤◌, ℕ, true, List, [], ◌∷◌, ◌++◌, length, Option}
-use Rattle.std.specs.List.{list_any}
+-- What answers requests while the workers run: the requests of a console or of links, and the Close behind them.
+use Rattle.std.specs.Prelude.{◌≡◌, ◌≤◌, ℕ, List, [], ◌∷◌, ◌++◌, length, map, Option, Some, None}
+use Rattle.std.specs.List.{AllByRecursion}
 use mathlib.Core.List.{IsPrefix}
 use Rattle.cc_base.specs.Outside.{HasRisen}
 use Rattle.cluster_json.specs.File.{Meaning}
-use Rattle.core_laws.specs.Events.{is_close}
 use Rattle.core_terms.specs.declared.events.Event.{Event}
 use Rattle.core_terms.specs.declared.events.Event.TheVariants as event
 use Rattle.mover_rounds.specs.Made.{Copies}
 use Rattle.mover_workers.specs.Callers.{known_by_pass}
+use Rattle.net_links.specs.Links.{AcceptedLink, IsFresh, with_link}
 use Rattle.rest_session.specs.Answered.{HasServed}
 use Rattle.rest_session.specs.declared.session.LinkEnd.{LinkEnd}
 use Rattle.rest_session.specs.declared.session.LinkEnd.TheVariants as link
-use Rattle.live_service.specs.Workers.{Pass}
+use Rattle.turn_book.specs.Rule.{ArePlaced}
+use Rattle.live_service.specs.Views.{FrontView, LinkView, ServedView}
+use Rattle.live_service.specs.Workers.{HasShares, Pass}
+use Rattle.live_service.specs.declared.front.FrontEnd.{FrontEnd}
+use Rattle.live_service.specs.declared.front.FrontEnd.TheVariants as front
+
+-- the counts of a link's failed reads and writes don't fall, and an end by a fault has its cause
+pub record HasLinkCause (before after : LinkView) (end : LinkEnd) : Type 0 where
+  pub source : before.reads ≤ after.reads
+  pub sink : before.writes ≤ after.writes
+  pub read_fault : end ≡ link.ReadFault → HasRisen before.reads after.reads
+  pub write_fault : end ≡ link.WriteFault → HasRisen before.writes after.writes
+
+-- ---- links of a listener
+
+-- a link: the pass that it was given and the one that it gave back, its copier's copies before and after, the link as it was accepted and
+-- as it came back, and how it ended
+pub record LinkRun : Type 0 where
+  pub given : Pass
+  pub back : Pass
+  pub old : Copies
+  pub new : Copies
+  pub before : LinkView
+  pub after : LinkView
+  pub end : LinkEnd
+
+-- it began without an entry, each of its entries stands at its place, and they answered its requests. Nothing was written to it before
+pub record IsLinkRun (file : Meaning) (r : LinkRun) : Type 0 where
+  pub fresh : r.given.mine ≡ []
+  pub placed : ArePlaced r.back.seen r.back.mine
+  pub unwritten : IsFresh r.before.written
+  pub answered : HasServed (known_by_pass file r.given) (known_by_pass file r.back) r.old r.new r.before.left r.before.written r.after.written r.end
+  pub cause : HasLinkCause r.before r.after r.end
+
+-- the link as the listener told it, and as it came back
+abbrev pub accepted_of : LinkRun → AcceptedLink
+accepted_of r = record { source_faults = r.before.reads; sink_faults = r.before.writes; left = r.before.left }
+
+abbrev pub served_in : LinkRun → ServedView
+served_in r = record { link = r.after; end = r.end }
+
+-- what a listener tells, with these links at its end
+abbrev pub with_links : Option (List AcceptedLink) → List AcceptedLink → Option (List AcceptedLink)
+with_links told [] = told
+with_links told (x ∷ xs) = with_links (with_link told x) xs
+
+-- links were accepted one after another, each was answered with its copier in their order, and came back; the other copiers made nothing
+pub record HasServedLinks (file : Meaning) (told now : Option (List AcceptedLink)) (old new : List Copies) (links : List ServedView) (v w : Pass) : Type 0 where
+  pub runs : List LinkRun
+  pub others : List Copies
+  pub are : AllByRecursion (IsLinkRun file) runs
+  pub accepted : now ≡ with_links told (map accepted_of runs)
+  pub old_are : old ≡ map (λ r. r.old) runs ++ others
+  pub new_are : new ≡ map (λ r. r.new) runs ++ others
+  pub links_are : links ≡ map served_in runs
+  pub shares : HasShares v w (map (λ r. r.back) runs)
+
+-- ---- either of both
+
+-- the requests of the console were answered. The listener was left alone
+pub record HasServedConsole (file : Meaning) (f g : FrontView) (end : LinkEnd) (v w : Pass) : Type 0 where
+  pub answered : HasServed (known_by_pass file v) (known_by_pass file w) f.copier g.copier f.console.left f.console.written g.console.written end
+  pub cause : HasLinkCause f.console g.console end
+  pub net : g.net ≡ f.net
+
+-- the requests of links were answered. The console was left alone
+pub record HasServedNet (file : Meaning) (f g : FrontView) (old new : List Copies) (links : List ServedView) (v w : Pass) : Type 0 where
+  pub served : HasServedLinks file f.net.accepted g.net.accepted old new links v w
+  pub faults : f.net.faults ≤ g.net.faults
+  pub copier : g.copier ≡ f.copier
+  pub console : g.console ≡ f.console
+
+-- what was asked was answered, the console's requests or those of so many links, unless the listener failed
+abbrev pub HasAnswered : Meaning → Option ℕ → FrontView → FrontView → List ServedView → FrontEnd → List Copies → List Copies → Pass → Pass → Type 0
+HasAnswered file None f g links (front.Console end) old new v w = HasServedConsole file f g end v w × (links ≡ []) × (new ≡ old)
+HasAnswered file (Some n) f g links front.Accepted old new v w = HasServedNet file f g old new links v w × (length links ≡ n)
+HasAnswered file (Some n) f g links front.ListenerFault old new v w = HasServedNet file f g old new links v w × (length links ≤ n) × HasRisen f.net.faults g.net.faults
+HasAnswered file _ f g links _ old new v w = ⊥
+
+-- ---- and Close behind it
 
 -- Close was asked behind what a pass had seen, and is one more entry of its own
 pub record HasClosed (v w : Pass) : Type 0 where
@@ -21,30 +100,9 @@ pub record HasClosed (v w : Pass) : Type 0 where
   pub mine : w.mine ≡ v.mine ++ (length before, event.Close) ∷ []
   pub seen : w.seen ≡ before ++ event.Close ∷ []
 
--- or it wasn't taken, since another one had asked it before
-pub record WasClosed (v w : Pass) : Type 0 where
-  pub longer : IsPrefix v.seen w.seen
-  pub mine : w.mine ≡ v.mine
-  pub closed : list_any is_close w.seen ≡ true
-
-abbrev pub IsClosed : Pass → Pass → Type 0
-IsClosed v w = HasClosed v w ⊎ WasClosed v w
-
--- the requests of a link were answered, and then Close was asked
-pub record HasServedAll (file : Meaning) (v w : Pass) (k l : Copies) (left old new : Option (List ℕ)) (end : LinkEnd) : Type 0 where
+-- what was asked was answered, and then the one Close of the journal was asked
+pub record IsFront (Answered : Pass → Pass → Type 0) (v w : Pass) : Type 0 where
   pub served : Pass
-  pub answered : HasServed (known_by_pass file v) (known_by_pass file served) k l left old new end
-  pub closed : IsClosed served w
-
--- the share of a session: the requests of a link were answered, and then the one Close of the journal was asked
-pub record IsSessionShare (file : Meaning) (v w : Pass) (k l : Copies) (left old new : Option (List ℕ)) (end : LinkEnd) : Type 0 where
-  pub served : Pass
-  pub answered : HasServed (known_by_pass file v) (known_by_pass file served) k l left old new end
+  pub placed : ArePlaced served.seen served.mine
+  pub answered : Answered v served
   pub closed : HasClosed served w
-
--- the counts of a link's failed reads and writes don't fall, and an end by a fault has its cause
-pub record HasLinkCause (in_before in_now out_before out_now : ℕ) (end : LinkEnd) : Type 0 where
-  pub source : in_before ≤ in_now
-  pub sink : out_before ≤ out_now
-  pub read_fault : end ≡ link.ReadFault → HasRisen in_before in_now
-  pub write_fault : end ≡ link.WriteFault → HasRisen out_before out_now

@@ -1,3 +1,6 @@
+pub mod Views
 pub mod Workers
 pub mod Fronts
+pub mod Closing
+pub mod Asked
 pub mod Live

@@ -1,4 +1,4 @@
--- A live session: requests, planners and movers beside one another, over one book.
+-- A live service: requests, planners and movers beside one another, over one book.
 use Rattle.std.specs.Prelude.{◌≡◌, ℕ, true, List, [], length, Option}
 use mathlib.Core.List.{IsPrefix}
 use Rattle.control_core.specs.Books.{BookView}
@@ -6,10 +6,12 @@ use Rattle.core_terms.specs.declared.events.Event.{Event}
 use Rattle.mover_rounds.specs.Made.{Copies}
 use Rattle.mover_rounds.specs.Exact.{HasDrainedAlone}
 use Rattle.mover_rounds.specs.Owned.{known_by_owner}
-use Rattle.rest_session.specs.declared.whole.SessionEnd.{SessionEnd}
+use Rattle.mover_rounds.specs.declared.drains.DrainEnd.{DrainEnd}
 use Rattle.turn_book.specs.Rule.{ArePlaced, once_below, times}
-use Rattle.live_service.specs.Fronts.{IsSessionShare}
+use Rattle.live_service.specs.Fronts.{HasAnswered, IsFront}
+use Rattle.live_service.specs.Views.{FrontView, ServedView}
 use Rattle.live_service.specs.Workers.{HasRunAll, Pass}
+use Rattle.live_service.specs.declared.front.FrontEnd.{FrontEnd}
 
 -- these entries, each at its place, are just those of the journal
 pub record AreAllOf (journal : List Event) (mine : List (ℕ × Event)) : Type 0 where
@@ -18,7 +20,7 @@ pub record AreAllOf (journal : List Event) (mine : List (ℕ × Event)) : Type 0
 
 -- the journal of a book that was just opened is now that of a front, of movers and of planners that ran beside one another: each place
 -- of it is in just one of their shares
-pub record IsShared {A : Type 0} (Did : Pass → Pass → Type 0) (b c : BookView A) (old new : List Copies) (movers planners : ℕ) : Type 0 where
+pub record IsShared {A : Type 0} (Did : List Copies → List Copies → Pass → Pass → Type 0) (b c : BookView A) (old new : List Copies) (movers planners : ℕ) : Type 0 where
   pub given : Pass
   pub fresh : given.mine ≡ []
   pub back : Pass
@@ -27,11 +29,12 @@ pub record IsShared {A : Type 0} (Did : Pass → Pass → Type 0) (b c : BookVie
   pub shares : AreAllOf c.journal back.mine
   pub saw : IsPrefix back.seen c.journal
 
--- a live session: the front answered the requests of a link and then asked Close, which no other actor did; behind the shares of all come the rounds of a drain
-pub record IsLiveSession {A : Type 0} (b c : BookView A) (old new : List Copies) (movers planners : ℕ) (k l : Copies) (left was now : Option (List ℕ)) (end : SessionEnd) : Type 0 where
+-- a live service: what was asked was answered, and then Close was asked, which no other actor did; behind the shares of all come the
+-- rounds of a drain
+pub record IsLive {A : Type 0} (asked : Option ℕ) (b c : BookView A) (old new : List Copies) (movers planners : ℕ) (f g : FrontView) (links : List ServedView) (end : FrontEnd) (drain : DrainEnd) : Type 0 where
   pub closed : BookView A
   pub between : Copies
-  pub shared : IsShared (λ v w. IsSessionShare b.file v w k between left was now end.link) b closed old new movers planners
+  pub shared : IsShared (λ xs ys. IsFront (HasAnswered b.file asked f (record g { copier = between }) links end xs ys)) b closed old new movers planners
   pub settled : BookView A
   pub settled_is : settled ≡ record closed { settled = true }
-  pub drained : HasDrainedAlone (known_by_owner settled) (known_by_owner c) between l end.drain
+  pub drained : HasDrainedAlone (known_by_owner settled) (known_by_owner c) between g.copier drain

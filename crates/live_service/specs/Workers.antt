@@ -9,6 +9,7 @@ use Rattle.mover_workers.specs.Callers.{known_by_pass}
 use Rattle.mover_workers.specs.Loops.{HasMoved, HasPlanned}
 use Rattle.mover_workers.specs.declared.loops.LoopEnd.{LoopEnd}
 use Rattle.turn_book.specs.Known.{Known as PassView}
+use Rattle.turn_book.specs.Rule.{ArePlaced}
 
 -- what a pass of a book's turn knows
 abbrev pub Pass : Type 0
@@ -22,9 +23,10 @@ pub record Mover : Type 0 where
   pub new : Copies
   pub end : LoopEnd
 
--- it began without an entry, and its entries are a mover's rounds
+-- it began without an entry, each of its entries stands at its place, and they are a mover's rounds
 pub record IsMover (file : Meaning) (m : Mover) : Type 0 where
   pub fresh : m.given.mine ≡ []
+  pub placed : ArePlaced m.back.seen m.back.mine
   pub moved : HasMoved (known_by_pass file m.given) (known_by_pass file m.back) m.old m.new m.end
 
 -- a planner: its passes, and how its loop ended
@@ -33,9 +35,10 @@ pub record Planner : Type 0 where
   pub back : Pass
   pub end : LoopEnd
 
--- it began without an entry, and its entries are a planner's rounds
+-- it began without an entry, each of its entries stands at its place, and they are a planner's rounds
 pub record IsPlanner (file : Meaning) (p : Planner) : Type 0 where
   pub fresh : p.given.mine ≡ []
+  pub placed : ArePlaced p.back.seen p.back.mine
   pub planned : HasPlanned (known_by_pass file p.given) (known_by_pass file p.back) p.end
 
 -- the entries of passes with their places, the last pass first
@@ -60,33 +63,34 @@ HasMovedOnce file v w k l = (end : LoopEnd) × HasMoved (known_by_pass file v) (
 abbrev pub HasPlannedOnce : Meaning → Pass → Pass → Type 0
 HasPlannedOnce file v w = (end : LoopEnd) × HasPlanned (known_by_pass file v) (known_by_pass file w) end
 
--- so many movers, each with its copier in their order; the other copiers made nothing
-pub record HasMovers (file : Meaning) (front back : Pass) (old new : List Copies) (count : ℕ) : Type 0 where
+-- so many movers, each with its copier in their order, before the copiers of a front
+pub record HasMovers (file : Meaning) (before back : Pass) (old new others_old others_new : List Copies) (count : ℕ) : Type 0 where
   pub movers : List Mover
-  pub others : List Copies
   pub are : AllByRecursion (IsMover file) movers
   pub count_is : length movers ≡ count
-  pub old_are : old ≡ map (λ m. m.old) movers ++ others
-  pub new_are : new ≡ map (λ m. m.new) movers ++ others
-  pub shares : HasShares front back (map (λ m. m.back) movers)
+  pub old_are : old ≡ map (λ m. m.old) movers ++ others_old
+  pub new_are : new ≡ map (λ m. m.new) movers ++ others_new
+  pub shares : HasShares before back (map (λ m. m.back) movers)
 
 -- so many planners
-pub record HasPlanners (file : Meaning) (front back : Pass) (count : ℕ) : Type 0 where
+pub record HasPlanners (file : Meaning) (before back : Pass) (count : ℕ) : Type 0 where
   pub planners : List Planner
   pub are : AllByRecursion (IsPlanner file) planners
   pub count_is : length planners ≡ count
-  pub shares : HasShares front back (map (λ p. p.back) planners)
+  pub shares : HasShares before back (map (λ p. p.back) planners)
 
--- what a front did with a pass like the one that was given, and beside it so many movers
-pub record HasRun (Did : Pass → Pass → Type 0) (file : Meaning) (given back : Pass) (old new : List Copies) (n : ℕ) : Type 0 where
+-- what a front did with some copiers and with a pass like the one that was given, and beside it so many movers
+pub record HasRun (Did : List Copies → List Copies → Pass → Pass → Type 0) (file : Meaning) (given back : Pass) (old new : List Copies) (n : ℕ) : Type 0 where
   pub begun : Pass
   pub same : begun.mine ≡ given.mine
-  pub front : Pass
-  pub did : Did begun front
-  pub movers : HasMovers file front back old new n
+  pub over : Pass
+  pub others_old : List Copies
+  pub others_new : List Copies
+  pub did : Did others_old others_new begun over
+  pub movers : HasMovers file over back old new others_old others_new n
 
 -- and so many planners
-pub record HasRunAll (Did : Pass → Pass → Type 0) (file : Meaning) (given back : Pass) (old new : List Copies) (n m : ℕ) : Type 0 where
+pub record HasRunAll (Did : List Copies → List Copies → Pass → Pass → Type 0) (file : Meaning) (given back : Pass) (old new : List Copies) (n m : ℕ) : Type 0 where
   pub between : Pass
   pub run : HasRun Did file given between old new n
   pub planners : HasPlanners file between back m

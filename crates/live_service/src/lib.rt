@@ -2,10 +2,12 @@
 #![tactic(auto)]
 
 mod crew;
+mod front;
 mod link;
+mod links;
 mod live;
-mod session;
 
+pub use front::{Front, FrontEnd};
 pub use link::serve_link;
-pub use live::{LiveSession, Unshared, run_live_session};
-pub use session::{Served, Session};
+pub use links::{Served, Service, Serving};
+pub use live::{Live, Unshared, run_live_service};

@@ -1,0 +1,218 @@
+// Each call of the outside that fails in turn, where a console asks for one move.
+use crate::links::{
+    TestCopier, TestLink, TestListener, copier_of, copiers_of, link_of, silent_listener, told,
+};
+use crate::services::{Outside, Over, Setting, run};
+use crate::texts::{ACCEPTED, REMOVAL, TWO, expect_text};
+use live_service::FrontEnd;
+use mover_rounds::DrainEnd;
+use rest_session::LinkEnd;
+use std::alloc::Global;
+use std::process::Abort;
+use std::sync::Wait;
+use std::thread::Threads;
+
+// Which calls fail. Those of the cluster and copies are counted from 1 on, and reads and writes of the console from 0 on.
+#[derive(Clone, Copy)]
+struct Calls {
+    cluster: &'static [u64],
+    copies: &'static [u64],
+    reads: &'static [u64],
+    writes: &'static [u64],
+}
+
+const NONE: Calls = Calls {
+    cluster: &[],
+    copies: &[],
+    reads: &[],
+    writes: &[],
+};
+
+// The calls that fail, and how many movers, and as many planners, work beside the console. Then how the console and the drain end, the
+// list in the end, how many copies were told as failed, and what was written.
+#[derive(Clone, Copy)]
+struct Row {
+    failing: Calls,
+    workers: u32,
+    console: LinkEnd,
+    drain: DrainEnd,
+    list: &'static [u32],
+    failed_copies: usize,
+    told: &'static str,
+}
+
+// Where no call fails and nobody works beside the console.
+const GOOD: Row = Row {
+    failing: NONE,
+    workers: 0,
+    console: LinkEnd::Ended,
+    drain: DrainEnd::Drained,
+    list: &[1],
+    failed_copies: 0,
+    told: ACCEPTED,
+};
+
+// Each call that is made fails in some row, and for each kind of call a row names the first that isn't made any more.
+const ROWS: [Row; 13] = [
+    // the first call of the cluster installs its lists, and no service is run where it fails. The next begins the move
+    Row {
+        failing: Calls {
+            cluster: &[2],
+            ..NONE
+        },
+        drain: DrainEnd::AdminFault(1),
+        list: &[0],
+        ..GOOD
+    },
+    // this one ends it, so that both brokers stay in the list
+    Row {
+        failing: Calls {
+            cluster: &[3],
+            ..NONE
+        },
+        drain: DrainEnd::AdminFault(1),
+        list: &[0, 1],
+        ..GOOD
+    },
+    // where a mover meets that fault, the drain ends the move
+    Row {
+        failing: Calls {
+            cluster: &[3],
+            ..NONE
+        },
+        workers: 1,
+        ..GOOD
+    },
+    Row {
+        failing: Calls {
+            cluster: &[4],
+            ..NONE
+        },
+        ..GOOD
+    },
+    // a copy that fails is made again
+    Row {
+        failing: Calls {
+            copies: &[1],
+            ..NONE
+        },
+        failed_copies: 1,
+        ..GOOD
+    },
+    Row {
+        failing: Calls {
+            copies: &[2],
+            ..NONE
+        },
+        ..GOOD
+    },
+    // the third failure undoes the move
+    Row {
+        failing: Calls {
+            copies: &[1, 2, 3],
+            ..NONE
+        },
+        list: &[0],
+        failed_copies: 3,
+        ..GOOD
+    },
+    // unless the cluster fails to
+    Row {
+        failing: Calls {
+            cluster: &[3],
+            copies: &[1, 2, 3],
+            ..NONE
+        },
+        drain: DrainEnd::AdminFault(1),
+        list: &[0, 1],
+        failed_copies: 3,
+        ..GOOD
+    },
+    // no request comes
+    Row {
+        failing: Calls {
+            reads: &[0],
+            ..NONE
+        },
+        console: LinkEnd::ReadFault,
+        list: &[0],
+        told: "",
+        ..GOOD
+    },
+    // none comes behind the first, which is carried out
+    Row {
+        failing: Calls {
+            reads: &[1],
+            ..NONE
+        },
+        console: LinkEnd::ReadFault,
+        ..GOOD
+    },
+    Row {
+        failing: Calls {
+            reads: &[2],
+            ..NONE
+        },
+        ..GOOD
+    },
+    // a request is carried out whose reply isn't written
+    Row {
+        failing: Calls {
+            writes: &[0],
+            ..NONE
+        },
+        console: LinkEnd::WriteFault,
+        told: "",
+        ..GOOD
+    },
+    Row {
+        failing: Calls {
+            writes: &[1],
+            ..NONE
+        },
+        ..GOOD
+    },
+];
+
+fn run_row<R: Threads + Wait + Abort + Sync>(
+    rt: &R,
+    alloc: Global,
+    row: &Row,
+) -> Over<TestCopier, TestLink, TestListener> {
+    let setting = Setting {
+        text: TWO,
+        failing: row.failing.cluster,
+        movers: row.workers,
+        planners: row.workers,
+        links: None,
+    };
+    let outside = Outside {
+        copiers: copiers_of(rt, alloc, row.workers),
+        copier: copier_of(rt, alloc, row.failing.copies),
+        console: link_of(rt, alloc, REMOVAL, row.failing.reads, row.failing.writes),
+        listener: silent_listener(rt, alloc),
+    };
+    run(rt, alloc, setting, outside)
+}
+
+fn expect_row<R: Abort>(rt: &R, row: &Row, over: &Over<TestCopier, TestLink, TestListener>) {
+    assert_eq!(rt; over.end, FrontEnd::Console(row.console));
+    assert_eq!(rt; over.drain, row.drain);
+    assert_eq!(rt; over.book.failed_copies, row.failed_copies);
+    expect_text(rt, told(&over.front.console), row.told);
+    assert_eq!(rt; over.book.lists.len(), 1);
+    for list in over.book.lists.iter() {
+        assert_eq!(rt; list.as_slice(), row.list);
+        let whole = matches!(list.as_slice(), [0] | [1]);
+        assert!(rt; whole || over.drain != DrainEnd::Drained);
+    }
+}
+
+#[test]
+fn a_service_ends_as_its_outside_fails(rt: HostRuntime) {
+    let alloc = rt.alloc();
+    for row in &ROWS {
+        let over = run_row(&rt, alloc, row);
+        expect_row(&rt, row, &over);
+    }
+}

@@ -1,0 +1,84 @@
+// Movers and planners beside a console.
+use crate::links::{link_of, silent_listener, told};
+use crate::services::{Outside, Over, Setting, run};
+use crate::texts::{ACCEPTED, ACCEPTED_AND_MOVING, FOUR, REMOVAL_OF_BOTH, STATE, expect_text};
+use cc_base::Joined;
+use live_service::FrontEnd;
+use mover_rounds::DrainEnd;
+use net_links::Listener;
+use rest_session::LinkEnd;
+use std::process::Abort;
+use test_gates::{PairGate, ReplyGate};
+
+// Brokers 0 and 1 are removed.
+const REMOVING: Setting = Setting {
+    text: FOUR,
+    failing: &[],
+    movers: 1,
+    planners: 1,
+    links: None,
+};
+
+// The console's requests are answered, nothing is left to do, and no copy waited in vain. Brokers 2 and 3 have the partitions. The replies
+// are those of the replay.
+fn expect_removed<K, L, N: Listener, R: Abort>(rt: &R, over: &Over<K, L, N>, written: &[u8])
+where
+    N::Conn: Drop,
+{
+    assert_eq!(rt; over.end, FrontEnd::Console(LinkEnd::Ended));
+    assert_eq!(rt; over.drain, DrainEnd::Drained);
+    assert_eq!(rt; over.book.failed_copies, 0);
+    assert_eq!(rt; over.book.lists.len(), 2);
+    for list in over.book.lists.iter() {
+        assert!(rt; matches!(list.as_slice(), [2] | [3]));
+    }
+    assert_eq!(rt; over.book.replies.as_slice(), written);
+}
+
+// Each copy waits until the other mover's has begun.
+#[test]
+fn two_movers_copy_at_once(rt: HostRuntime) {
+    let alloc = rt.alloc();
+    let (one, other) = PairGate::pair(alloc).expect(&rt, "memory");
+    let outside = Outside {
+        copiers: vec![in alloc; one, other].expect(&rt, "memory"),
+        copier: PairGate::plain(alloc).expect(&rt, "memory"),
+        console: link_of(&rt, alloc, REMOVAL_OF_BOTH, &[], &[]),
+        listener: silent_listener(&rt, alloc),
+    };
+    let setting = Setting {
+        movers: 2,
+        ..REMOVING
+    };
+    let over = run(&rt, alloc, setting, outside);
+    expect_text(&rt, told(&over.front.console), ACCEPTED);
+    expect_removed(&rt, &over, told(&over.front.console));
+    assert_eq!(rt; over.front.service.copiers.len(), 2);
+    for gate in over.front.service.copiers.iter() {
+        assert_eq!(rt; gate.copies().len(), 1);
+    }
+    assert_eq!(rt; over.front.copier.copies().len(), 0);
+}
+
+// The first copy waits until both replies are written, and the second request comes only once that copy has begun.
+#[test]
+fn a_reply_is_written_while_a_copy_is_under_way(rt: HostRuntime) {
+    let alloc = rt.alloc();
+    let (first, last) = (REMOVAL_OF_BOTH.as_bytes(), STATE.as_bytes());
+    let (gate, source, sink) = ReplyGate::held(alloc, 2, first, last).expect(&rt, "memory");
+    let outside = Outside {
+        copiers: vec![in alloc; gate].expect(&rt, "memory"),
+        copier: ReplyGate::plain(alloc).expect(&rt, "memory"),
+        console: Joined::new(source, sink),
+        listener: silent_listener(&rt, alloc),
+    };
+    let over = run(&rt, alloc, REMOVING, outside);
+    let written = over.front.console.sink().bytes();
+    expect_text(&rt, written, ACCEPTED_AND_MOVING);
+    expect_removed(&rt, &over, written);
+    assert_eq!(rt; over.front.service.copiers.len(), 1);
+    for gate in over.front.service.copiers.iter() {
+        assert_eq!(rt; gate.copies().len(), 2);
+    }
+    assert_eq!(rt; over.front.copier.copies().len(), 0);
+}

@@ -1,0 +1,299 @@
+"""The built program's service, asked over the loopback."""
+import json
+import os
+import pathlib
+import socket
+import struct
+import subprocess
+import sys
+import tempfile
+import time
+import unittest
+
+ROOT = pathlib.Path(__file__).resolve().parents[2]
+sys.path.insert(0, str(ROOT / "tools/lib"))
+import serving
+from commands import EXAMPLES
+
+PROGRAM = ROOT / "crates/cc_program/out/cc_program"
+# No wait of a test is longer.
+SECONDS = 20
+
+TWO_BROKERS = str(ROOT / "examples/two-brokers.json")
+STATE = "/kafkacruisecontrol/state"
+CLUSTER = "/kafkacruisecontrol/kafka_cluster_state"
+TASKS = "/kafkacruisecontrol/user_tasks"
+REMOVE = "/kafkacruisecontrol/remove_broker?brokerid=0&dryrun=false"
+STOP = "/kafkacruisecontrol/stop_proposal_execution?force_stop=true"
+FIRST_TASK = "00000000-0000-8000-8000-000000000001"
+
+
+def reply_bytes(status, body, task=None):
+    """A reply as docs/FORMATS.md has it."""
+    field = f"User-Task-ID: {task}\r\n" if task else ""
+    return f"HTTP/1.1 {status}\r\nContent-Type: application/json\r\nContent-Length: {len(body)}\r\n{field}\r\n{body}".encode()
+
+
+def request_bytes(line, task=None):
+    field = f"User-Task-ID: {task}\r\n" if task else ""
+    return f"{line} HTTP/1.1\r\n{field}\r\n".encode()
+
+
+ACCEPTED = reply_bytes("202 Accepted", f'{{"status":"Active","userTaskId":"{FIRST_TASK}","version":1}}', FIRST_TASK)
+# A request, the same by its task's id, and another one by that id.
+KEYS = (
+    request_bytes(f"POST {REMOVE}")
+    + request_bytes(f"POST {REMOVE}", FIRST_TASK)
+    + request_bytes(f"POST {REMOVE.replace('brokerid=0', 'brokerid=1')}", FIRST_TASK)
+)
+OTHER_REQUEST = reply_bytes("400 Bad Request", f'{{"errorMessage":"other request: {FIRST_TASK}","version":1}}')
+KEYS_ANSWERED = ACCEPTED + ACCEPTED + OTHER_REQUEST
+IDLE = (
+    '{"ExecutorState":{"aborted":0,"aborting":0,"completed":0,"dead":0,"inProgress":0,"pending":0,"state":"NO_TASK_IN_PROGRESS"},'
+    '"MonitorState":{"all":1,"valid":0},"version":1}'
+)
+
+
+def cluster(partitions, chunks):
+    """Four brokers. Each partition is on the first and one of the others, so all lists have to change where the first is removed."""
+    lists = [[0, 1 + at % 3] if at % 2 else [1 + at % 3, 0] for at in range(partitions)]
+    return {
+        "version": 1,
+        "brokers": [{"id": id} for id in range(4)],
+        "partitions": [{"topic": "t", "partition": at, "replicas": members, "chunks": chunks} for at, members in enumerate(lists)],
+        "config": {"min.valid.partition.ratio": "0"},
+    }
+
+
+@unittest.skipUnless(PROGRAM.exists() or os.environ.get("CI"), "the program isn't built")
+class Serve(unittest.TestCase):
+    maxDiff = None
+
+    def setUp(self):
+        room = tempfile.TemporaryDirectory()
+        self.addCleanup(room.cleanup)
+        self.room = pathlib.Path(room.name)
+
+    def file(self, value):
+        path = self.room / "cluster.json"
+        path.write_text(json.dumps(value))
+        return str(path)
+
+    def start(self, *words, file=TWO_BROKERS, port=None):
+        self.port = port or serving.free_port()
+        words = [PROGRAM, "serve", file, "--listen", f"{serving.HOST}:{self.port}", *words]
+        self.process = subprocess.Popen(words, stdin=subprocess.DEVNULL, stdout=subprocess.PIPE, stderr=subprocess.PIPE)
+        self.addCleanup(self.end, self.process)
+
+    def end(self, process):
+        process.kill()
+        process.communicate()
+
+    def link(self):
+        link = serving.connect(self.process, self.port, SECONDS)
+        self.addCleanup(link.close)
+        return link
+
+    def links(self, count):
+        return [self.link() for _ in range(count)]
+
+    def assert_ends(self, status=0, line=b""):
+        out, err = self.process.communicate(timeout=SECONDS)
+        self.assertEqual((self.process.returncode, out, err), (status, b"", line))
+
+    def until(self, what, holds):
+        """What is told once it holds."""
+        last = time.monotonic() + SECONDS
+        while time.monotonic() < last:
+            told = what()
+            if holds(told):
+                return told
+            time.sleep(0.002)
+        self.fail(f"it never came to that: {told}")
+
+    def assert_lists(self, link, wanted):
+        reply = link.ask("GET", CLUSTER)
+        self.assertEqual((reply.code, serving.in_flight(reply.body)), (200, []))
+        lists = serving.lists_of(reply.body)
+        self.assertEqual(set(lists), set(wanted))
+        for place, members in lists.items():
+            self.assertIn(members, wanted[place], place)
+        return lists
+
+    # One link
+
+    def test_one_link_gets_the_replies_byte_for_byte(self):
+        self.start()
+        link = self.link()
+        link.send(KEYS)
+        link.stream.shutdown(socket.SHUT_WR)
+        self.assertEqual(link.rest(), KEYS_ANSWERED)
+        self.assert_ends()
+
+    def test_a_request_that_comes_byte_by_byte(self):
+        self.start()
+        link = self.link()
+        for at in range(len(KEYS)):
+            link.send(KEYS[at : at + 1])
+        self.assertEqual(link.reply().raw + link.reply().raw + link.reply().raw, KEYS_ANSWERED)
+        body = '{"topic":"t","partition":0,"time":5,"load":{"leader":{"CPU":3}}}'
+        for byte in f"POST /cluster/sample HTTP/1.1\r\nContent-Length: {len(body)}\r\n\r\n{body}".encode():
+            link.send(bytes([byte]))
+        self.assertEqual(link.reply().raw, reply_bytes("200 OK", '{"accepted":true,"version":1}'))
+        link.close()
+        self.assert_ends()
+
+    def test_a_request_that_closes_ends_the_link(self):
+        self.start()
+        link = self.link()
+        link.send(f"GET {STATE} HTTP/1.1\r\nConnection: close\r\n\r\n".encode() + KEYS)
+        self.assertEqual(link.rest(), reply_bytes("200 OK", IDLE))
+        self.assert_ends()
+
+    def test_a_request_that_cant_be_framed_is_told_so(self):
+        self.start()
+        link = self.link()
+        link.send(b"GET / HTTP/1.1\r\nContent-Length: x\r\n\r\n")
+        self.assertEqual(link.rest(), reply_bytes("400 Bad Request", '{"errorMessage":"bad length","version":1}'))
+        self.assert_ends()
+
+    # Several links
+
+    def test_links_are_served_at_once(self):
+        """Each reply comes while both links are open. A service of one link after another would leave the second one waiting."""
+        self.start("--links", "2")
+        first, second = self.links(2)
+        for link in (first, second, first, second):
+            self.assertEqual(link.ask("GET", STATE).raw, reply_bytes("200 OK", IDLE))
+        self.assertIsNone(self.process.poll())
+        second.close()
+        self.assertEqual(first.ask("GET", STATE).code, 200)
+        first.close()
+        self.assert_ends()
+
+    def test_a_client_that_goes_away_ends_its_link_alone(self):
+        """One ends inside a request's head, one by a reset there, one reads no reply, and one says nothing at all."""
+        self.start("--links", "5")
+        cut, reset, deaf, silent, good = links = self.links(5)
+        for link in links[:3]:
+            self.assertEqual(link.ask("GET", STATE).code, 200)
+        cut.send(b"GET /kafkacruisecontrol/sta")
+        cut.close()
+        reset.send(b"POST /kafkacruisecontrol/reba")
+        reset.stream.setsockopt(socket.SOL_SOCKET, socket.SO_LINGER, struct.pack("ii", 1, 0))
+        reset.close()
+        deaf.send(request_bytes(f"GET {STATE}") * 500)
+        deaf.stream.recv(1)
+        deaf.close()
+        silent.close()
+        self.assertEqual(good.ask("GET", STATE).raw, reply_bytes("200 OK", IDLE))
+        good.close()
+        self.assert_ends()
+
+    def test_links_share_one_book(self):
+        self.start("--links", "2")
+        first, second = self.links(2)
+        self.assertEqual(first.ask("POST", REMOVE).raw, ACCEPTED)
+        self.assertEqual(second.ask("POST", REMOVE, FIRST_TASK).raw, ACCEPTED)
+        self.assertEqual(second.ask("POST", "/cluster/pump?steps=10").body, {"done": 3, "idle": True, "version": 1})
+        self.assertEqual(first.ask("POST", REMOVE, FIRST_TASK).body["status"], "Completed")
+        self.assert_lists(second, {("t", 0): [[1]]})
+        first.close()
+        second.close()
+        self.assert_ends()
+
+    def test_as_many_links_as_may_be_asked(self):
+        self.start("--links", "64", "--movers", "64", "--planners", "4")
+        links = self.links(64)
+        for link in (*links, *reversed(links)):
+            self.assertEqual(link.ask("GET", STATE).raw, reply_bytes("200 OK", IDLE))
+        for link in links:
+            link.close()
+        self.assert_ends()
+
+    # Movers and planners
+
+    def test_movers_and_planners_carry_a_request_out(self):
+        self.start("--movers", "2", "--planners", "1", file=self.file(cluster(partitions=12, chunks=3)))
+        link = self.link()
+        before = self.assert_lists(link, {("t", at): [[0, 1 + at % 3], [1 + at % 3, 0]] for at in range(12)})
+        task = link.ask("POST", REMOVE).task
+        self.until(lambda: link.ask("GET", STATE).body["ExecutorState"], lambda it: it["completed"] and it["state"] == "NO_TASK_IN_PROGRESS")
+        reply = link.ask("POST", REMOVE, task)
+        self.assertEqual((reply.code, reply.task, reply.body["status"]), (200, task, "Completed"))
+        changes = serving.changes_of(reply.body["proposals"])
+        self.assertEqual({place: old for place, (old, _) in changes.items()}, before)
+        after = self.assert_lists(link, {place: [new] for place, (_, new) in changes.items()})
+        self.assertFalse([members for members in after.values() if 0 in members])
+        link.close()
+        self.assert_ends()
+
+    def test_a_stop_while_copies_are_made(self):
+        """Replies come while work is under way, and a stop ends it: each list is then its old one or its new one."""
+        self.start("--links", "2", "--movers", "2", "--planners", "1", file=self.file(cluster(partitions=300, chunks=1000)))
+        first, second = self.links(2)
+        task = first.ask("POST", REMOVE).task
+        under_way = self.until(lambda: first.ask("GET", STATE).body["ExecutorState"], lambda it: it["inProgress"])
+        self.assertEqual(under_way["state"], "INTER_BROKER_REPLICA_MOVEMENT_TASK_IN_PROGRESS")
+        stopped = second.ask("POST", STOP)
+        self.assertEqual(stopped.code, 200)
+        self.assertGreater(stopped.body["aborted"] + stopped.body["aborting"], 0)
+        self.until(lambda: serving.status_of(first.ask("GET", TASKS).body, task), lambda it: it in serving.ENDED)
+        body = second.ask("POST", REMOVE, task).body
+        self.assertEqual((body["status"], body["dead"]), ("CompletedWithError", 0))
+        self.assertEqual(body["aborted"], stopped.body["aborted"] + stopped.body["aborting"])
+        changes = serving.changes_of(body["proposals"])
+        after = self.assert_lists(second, {place: [old, new] for place, (old, new) in changes.items()})
+        kept = [place for place, members in after.items() if members == changes[place][0]]
+        self.assertEqual(len(kept), body["aborted"])
+        first.close()
+        second.close()
+        self.assert_ends()
+
+    def test_what_is_left_is_carried_out_behind_the_last_link(self):
+        """The service ends although nothing works beside the links: the drain does it."""
+        self.start(file=self.file(cluster(partitions=12, chunks=3)))
+        link = self.link()
+        self.assertEqual(link.ask("POST", REMOVE).code, 202)
+        link.close()
+        self.assert_ends()
+
+    # Ends
+
+    def test_a_port_that_is_in_use(self):
+        with socket.socket() as other:
+            other.bind((serving.HOST, 0))
+            other.listen()
+            self.start("--movers", "2", "--planners", "1", port=other.getsockname()[1])
+            self.assert_ends(12, b"listener fault\n")
+
+    def test_ends_before_anything_is_listened_at(self):
+        bad = self.room / "bad.json"
+        bad.write_text("{}")
+        rows = [
+            (2, b"usage error\n", TWO_BROKERS, ["--links", "0"]),
+            (2, b"usage error\n", TWO_BROKERS, ["--links", "65"]),
+            (2, b"usage error\n", TWO_BROKERS, ["--movers", "65"]),
+            (3, b"cluster refused: WrongShape /version\n", str(bad), []),
+            (5, b"file fault\n", str(self.room / "none"), []),
+        ]
+        for status, line, file, words in rows:
+            self.start(*words, file=file)
+            self.assert_ends(status, line)
+
+    def test_examples(self):
+        """Each example of the help serves as many links as it asks."""
+        examples = [it.split() for it in EXAMPLES if it.startswith("serve ")]
+        self.assertTrue(examples)
+        for _, file, *words in examples:
+            options = dict(zip(words[::2], words[1::2]))
+            options.pop("--listen", None)
+            self.start(*(word for pair in options.items() for word in pair), file=str(ROOT / file))
+            for link in self.links(int(options.get("--links", 1))):
+                self.assertEqual(link.ask("GET", STATE).code, 200)
+                link.close()
+            self.assert_ends()
+
+
+if __name__ == "__main__":
+    unittest.main()
