@@ -20,7 +20,7 @@ use cluster_gate::{Admin, Copier, InstallFault};
 use cluster_json::ClusterFile;
 use command_words::{Command, WordsFault, Workers, read_words};
 use control_core::Book;
-use live_service::{Front, FrontEnd, Live, Served, Service, Serving, Unshared, run_live_service};
+use live_service::{Front, FrontEnd, Served, Service, Serving, run_live_service};
 use mover_rounds::DrainEnd;
 use net_links::Listener;
 use rest_session::{LinkEnd, SessionEnd};

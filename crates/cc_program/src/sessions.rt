@@ -1,11 +1,10 @@
 // What `session` does.
-ghost use Rattle.std.specs.Prelude.{◌≡◌, ◌≢◌, ◌≤◌, ◌⊎◌, Some, []};
-ghost use Rattle.cc_base.specs.Outside.{HasRisen};
+ghost use Rattle.std.specs.Prelude.{◌≡◌, ◌≢◌, ◌≤◌, ◌⊎◌};
 ghost use Rattle.cluster_json.specs.Ranges.{IsFile};
 ghost use Rattle.cluster_json.specs.Views.{file_seen};
 ghost use Rattle.control_core.specs.Books.{opened};
 ghost use Rattle.cc_program.specs.Edges.{IsSilent, io_of};
-ghost use Rattle.cc_program.specs.Sessions.{DidSession, IsSessionOf, drained_end, ended_by};
+ghost use Rattle.cc_program.specs.Sessions.{DidSession, drained_end, ended_by};
 ghost use Rattle.cc_program.specs.declared.ends.End.{End};
 
 use crate::ends::End;
