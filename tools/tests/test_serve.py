@@ -2,6 +2,7 @@
 import json
 import os
 import pathlib
+import resource
 import socket
 import struct
 import subprocess
@@ -18,6 +19,8 @@ from commands import EXAMPLES
 PROGRAM = ROOT / "crates/cc_program/out/cc_program"
 # No wait of a test is longer.
 SECONDS = 20
+# Of so many bytes of addresses the program has enough, and the stack of a thread has no place.
+NO_THREADS = 8 << 20
 
 TWO_BROKERS = str(ROOT / "examples/two-brokers.json")
 STATE = "/kafkacruisecontrol/state"
@@ -79,10 +82,16 @@ class Serve(unittest.TestCase):
         path.write_text(json.dumps(value))
         return str(path)
 
-    def start(self, *words, file=TWO_BROKERS, port=None):
+    def start(self, *words, file=TWO_BROKERS, port=None, addresses=resource.RLIM_INFINITY):
         self.port = port or serving.free_port()
         words = [PROGRAM, "serve", file, "--listen", f"{serving.HOST}:{self.port}", *words]
-        self.process = subprocess.Popen(words, stdin=subprocess.DEVNULL, stdout=subprocess.PIPE, stderr=subprocess.PIPE)
+        self.process = subprocess.Popen(
+            words,
+            stdin=subprocess.DEVNULL,
+            stdout=subprocess.PIPE,
+            stderr=subprocess.PIPE,
+            preexec_fn=lambda: resource.setrlimit(resource.RLIMIT_AS, (addresses, addresses)),
+        )
         self.addCleanup(self.end, self.process)
 
     def end(self, process):
@@ -169,6 +178,21 @@ class Serve(unittest.TestCase):
         second.close()
         self.assertEqual(first.ask("GET", STATE).code, 200)
         first.close()
+        self.assert_ends()
+
+    def test_without_threads(self):
+        """Where no thread can be started, a link is served at once, and the next is accepted when it has ended. The workers' turn comes last."""
+        self.start("--links", "2", "--movers", "1", "--planners", "1", addresses=NO_THREADS)
+        first, second = self.links(2)
+        self.assertEqual(first.ask("POST", REMOVE).raw, ACCEPTED)
+        second.send(request_bytes(f"GET {TASKS}"))
+        second.stream.settimeout(0.2)
+        with self.assertRaises(TimeoutError):
+            second.reply()
+        second.stream.settimeout(SECONDS)
+        first.close()
+        self.assertEqual(second.reply().body["userTasks"][0]["status"], "Active")
+        second.close()
         self.assert_ends()
 
     def test_a_client_that_goes_away_ends_its_link_alone(self):
