@@ -7,7 +7,7 @@ use Rattle.control_core.specs.Books.{BookView}
 use Rattle.live_service.specs.Asked as asked
 use Rattle.live_service.specs.Views.{ServedView}
 use Rattle.live_service.specs.declared.links.Serving.{Serving}
-use Rattle.cc_program.specs.Lives.{CrewAsked, IsLeft, IsOver, Outside, links_in, serving_told}
+use Rattle.cc_program.specs.Lives.{CrewAsked, Gate, IsLeft, IsOver, Outside, links_in, serving_told}
 use Rattle.cc_program.specs.declared.ends.End.{End}
 
 pub put_back : {X : Type 0} (xs : List X) (n : ℕ) (x : X) → n < length xs → x ≡ slice_index_or xs n x → xs ≡ insert (remove xs n) n x
@@ -27,10 +27,10 @@ pub put_in : {X Y : Type 0} (f : X → Y) (xs ys : List X) (n : ℕ) (x : X) →
 put_in f xs ys n x e = ap (map f) e ∙ map_insert f xs n x
 
 -- a book that was begun
-pub left_begun : {A : Type 0} (faults : A → ℕ) (m : Meaning) (crew : CrewAsked) (old new : Outside) (links : List ServedView) (admin : A) (back : Option A) (book : Option (BookView A)) (end : End)
-    → IsSome book → IfSome book (λ c. IsOver m crew old new links c end) → IsLeft faults m crew old new links admin back book end
-left_begun faults m crew old new links admin back None end is over = absurd (let h : false ≡ true = is in cc)
-left_begun faults m crew old new links admin back (Some c) end is over = over
+pub left_begun : {A : Type 0} (gate : Gate A) (m : Meaning) (crew : CrewAsked) (old new : Outside) (links : List ServedView) (admin : A) (back : Option A) (book : Option (BookView A)) (end : End)
+    → IsSome book → IfSome book (λ c. IsOver gate m crew old new links c end) → IsLeft gate m crew old new links admin back book end
+left_begun gate m crew old new links admin back None end is over = absurd (let h : false ≡ true = is in cc)
+left_begun gate m crew old new links admin back (Some c) end is over = over
 
 -- links, as a value of the program and as the words ask for them
 pub links_told : (s : Option Serving) → asked.links_asked s ≡ option_map (λ x. x.links) (serving_told s)

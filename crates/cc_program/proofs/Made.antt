@@ -1,16 +1,9 @@
 -- What the commands make of a plan, a failure and a trace.
-use Rattle.std.proofs.Common.{◌≡◌, inl, inr, ℕ, List, [], ◌∷◌, false, Bool, refl}
-use Rattle.std.specs.Prelude.{Option, Some, None, Result, Ok, Err, IfOk, IfSome, if◌then◌else◌}
-use Rattle.core_terms.specs.Asked.{asks_demotion, goals_of}
-use Rattle.goal_set.specs.Kept.{FailureView, PlanView}
+use Rattle.std.proofs.Common.{◌≡◌, inl, inr, ℕ, List, false, Bool, refl}
+use Rattle.std.specs.Prelude.{Option, Some, None, Result, Ok, Err, IfOk, IfSome}
+use Rattle.goal_set.specs.Kept.{FailureView}
 use Rattle.goal_set.specs.declared.kinds.GoalKind.{GoalKind}
-use Rattle.goal_set.specs.declared.kinds.GoalKind.TheVariants.{Demotion, Evacuation}
-use Rattle.goal_set.specs.Read.{read_kinds}
-use Rattle.goal_optimizer.specs.Outcomes.{IsFailureOf, IsPlanOf}
-use Rattle.user_tasks.specs.declared.ask.Ask.{Ask}
-use Rattle.user_tasks.specs.declared.ask.Op.{Op}
-use Rattle.user_tasks.specs.declared.ask.Op.TheVariants as op
-use Rattle.cc_program.specs.Applied.{BeginsWithEvacuation, IsApplied, IsCarriedOut}
+use Rattle.goal_optimizer.specs.Outcomes.{IsFailureOf}
 use Rattle.cc_program.specs.Checked.{IsChecked}
 use Rattle.cc_program.specs.Generated.{IsGenerated, IsSummary, IsSummedUp}
 use Rattle.cc_program.specs.Input.{ClusterLists}
@@ -18,20 +11,6 @@ use Rattle.cc_program.specs.Planned.{IsFailed, IsPlanned}
 use Rattle.cc_program.specs.declared.answers.Answer.{Answer}
 use Rattle.cc_program.specs.declared.ends.End.{End}
 use Rattle.cc_program.specs.declared.ends.End.TheVariants as end
-
--- every list of goals of a request begins with evacuation
-names_begin : (names : List (List ℕ)) → BeginsWithEvacuation (read_kinds names)
-names_begin [] = (_, refl)
-names_begin (n ∷ ns) = (_, refl)
-
-pub begins : (ask : Ask) → BeginsWithEvacuation (goals_of ask)
-begins ask = by_op ask.op where
-  by_op : (o : Op) → BeginsWithEvacuation (if asks_demotion o then Evacuation ∷ Demotion ∷ [] else read_kinds ask.goals)
-  by_op op.Proposals = names_begin ask.goals
-  by_op op.Rebalance = names_begin ask.goals
-  by_op op.AddBroker = names_begin ask.goals
-  by_op op.RemoveBroker = names_begin ask.goals
-  by_op op.DemoteBroker = (_, refl)
 
 module _ (file : ClusterLists) (goals : List GoalKind) where
   module _ (failure : FailureView) (is : IsFailureOf file.cluster file.lists goals failure) where
@@ -50,23 +29,6 @@ module _ (file : ClusterLists) (goals : List GoalKind) where
     pub summed : {E : Type 0} (r : Result Answer E) → IfOk r (λ a. IsSummedUp failure a.text.items a.end) → IfOk r (λ a. IsSummary file goals a.text.items a.end)
     summed (Ok a) h = summed_one a.text.items a.end h
     summed (Err e) h = h
-
-    failed_apply_one : (text : List ℕ) (e : End) → IsFailed false failure text e → IsApplied file goals text e
-    failed_apply_one text (end.GoalFailed line) h = record { failure = failure; failed = is; told = h }
-    failed_apply_one text _ h = absurd h
-
-    pub failed_apply : {E : Type 0} (r : Result Answer E) → IfOk r (λ a. IsFailed false failure a.text.items a.end) → IfOk r (λ a. IsApplied file goals a.text.items a.end)
-    failed_apply (Ok a) h = failed_apply_one a.text.items a.end h
-    failed_apply (Err e) h = h
-
-  module _ (plan : PlanView) (is : IsPlanOf file.cluster file.lists goals plan) where
-    applied_one : (text : List ℕ) (e : End) → IsCarriedOut file plan.end text e → IsApplied file goals text e
-    applied_one text end.Done h = record { plan = plan; planned = is; executed = h }
-    applied_one text _ h = absurd h
-
-    pub applied : {E : Type 0} (r : Result Answer E) → IfOk r (λ a. IsCarriedOut file plan.end a.text.items a.end) → IfOk r (λ a. IsApplied file goals a.text.items a.end)
-    applied (Ok a) h = applied_one a.text.items a.end h
-    applied (Err e) h = h
 
   -- a summary is what `gen` makes where its cluster file isn't asked for
   generated_one : (made text : List ℕ) (e : End) → IsSummary file goals text e → IsGenerated false made file goals text e

@@ -9,3 +9,4 @@ pub mod Planned
 pub mod Runs
 pub mod Sessions
 pub mod Lives
+pub mod Complete

@@ -2,13 +2,14 @@
 -- all share.
 use Rattle.std.specs.Prelude.{◌≡◌, ◌≤◌, ◌⊎◌, ◌+◌, ℕ, Bool, true, false, List, [], length, map, Option, Some, None, IfSome, option_and_then, option_map, string_bytes}
 use Rattle.std.specs.List.{insert, list_any}
-use Rattle.cc_base.specs.Outside.{HasRisen}
+use Rattle.cc_base.specs.Outside.{HasRisen, with_name}
 use Rattle.cluster_json.specs.Faults.{Fault}
 use Rattle.cluster_json.specs.File.{Meaning}
 use Rattle.command_words.specs.Meaning as words
 use Rattle.control_core.specs.Books.{BookView, opened, state_of}
 use Rattle.core_laws.specs.Alone.{IsDone}
 use Rattle.core_terms.specs.History.{AreLegal}
+use Rattle.exec_terms.specs.Machine.{lists_now}
 use Rattle.live_service.specs.Live.{IsLive}
 use Rattle.live_service.specs.Views.{FrontView, LinkView, NetView, ServedView}
 use Rattle.live_service.specs.declared.front.FrontEnd.{FrontEnd}
@@ -17,6 +18,7 @@ use Rattle.live_service.specs.declared.links.Serving.{Serving}
 use Rattle.mover_rounds.specs.Made.{Copies}
 use Rattle.mover_rounds.specs.declared.drains.DrainEnd.{DrainEnd}
 use Rattle.mover_rounds.specs.declared.drains.DrainEnd.TheVariants as drain
+use Rattle.plan_terms.specs.Cluster.{Lists}
 use Rattle.rest_session.specs.declared.session.LinkEnd.{LinkEnd}
 use Rattle.rest_session.specs.declared.session.LinkEnd.TheVariants as link
 use Rattle.cc_program.specs.Ends.{refusal_line}
@@ -90,6 +92,14 @@ outside_of copies link net copiers console listener = record { copiers = map cop
 abbrev pub with_copier : Copies → Outside → FrontView
 with_copier copier o = record { copier = copier; console = o.console; net = o.net }
 
+-- what is told of an admin: how many of its calls have failed, and its lists
+pub record Gate (A : Type 0) : Type 0 where
+  pub faults : A → ℕ
+  pub told : A → Option Lists
+
+abbrev pub gate : {A : Type 0} → (A → ℕ) → (A → Option Lists) → Gate A
+gate faults told = record { faults = faults; told = told }
+
 -- there was no memory to go on with a link
 abbrev pub wanted : LinkEnd → Bool
 wanted link.Memory = true
@@ -105,8 +115,9 @@ ended_live front.Accepted true d = Memory
 ended_live front.Accepted false d = drained_end d
 ended_live front.ListenerFault want d = ListenerFault
 
--- a whole run over the cluster that a file means, with the movers, planners and links that were asked for: a legal history
-pub record IsLiveOf {A : Type 0} (m : Meaning) (crew : CrewAsked) (old new : Outside) (links : List ServedView) (c : BookView A) (e : FrontEnd) (d : DrainEnd) : Type 0 where
+-- a whole run over the cluster that a file means, with the movers, planners and links that were asked for: a legal history, and the
+-- admin's lists, where they are told, are those of its state
+pub record IsLiveOf {A : Type 0} (admin : Gate A) (m : Meaning) (crew : CrewAsked) (old new : Outside) (links : List ServedView) (c : BookView A) (e : FrontEnd) (d : DrainEnd) : Type 0 where
   pub b : BookView A
   pub opening : b ≡ opened m b.admin
   pub workers_old : List Copies
@@ -115,8 +126,9 @@ pub record IsLiveOf {A : Type 0} (m : Meaning) (crew : CrewAsked) (old new : Out
   pub after : Copies
   pub old_are : old.copiers ≡ insert workers_old (copiers_before crew) before
   pub new_are : new.copiers ≡ insert workers_new (copiers_before crew) after
-  pub live : IsLive (links_asked crew) b c workers_old workers_new crew.movers crew.planners (with_copier before old) (with_copier after new) links e d
+  pub live : IsLive admin.faults (links_asked crew) b c workers_old workers_new crew.movers crew.planners (with_copier before old) (with_copier after new) links e d
   pub legal : AreLegal c.journal
+  pub lists : IfSome (admin.told c.admin) (λ lists. lists ≡ lists_now (state_of c).desk.exec)
   pub drained : d ≡ drain.Drained → IsDone (state_of c).desk
   pub late : (number : ℕ) → d ≡ drain.AdminFault number → (1 ≤ c.late) ⊎ (18446744073709551615 ≤ c.failures)
 
@@ -125,48 +137,62 @@ abbrev pub IsIdle : Outside → Outside → List ServedView → Type 0
 IsIdle old new links = (new ≡ old) × (links ≡ [])
 
 -- what was left where a book was begun: a whole run, by which it ended; or there was no memory to share the book, and nothing was done
-abbrev pub IsOver : {A : Type 0} → Meaning → CrewAsked → Outside → Outside → List ServedView → BookView A → End → Type 0
-IsOver m crew old new links c end =
+abbrev pub IsOver : {A : Type 0} → Gate A → Meaning → CrewAsked → Outside → Outside → List ServedView → BookView A → End → Type 0
+IsOver admin m crew old new links c end =
     ((end ≡ Memory) × (c ≡ opened m c.admin) × IsIdle old new links)
-    ⊎ ((e : FrontEnd) × (d : DrainEnd) × (end ≡ ended_live e (list_any is_want links) d) × IsLiveOf m crew old new links c e d)
+    ⊎ ((e : FrontEnd) × (d : DrainEnd) × (end ≡ ended_live e (list_any is_want links) d) × IsLiveOf admin m crew old new links c e d)
 
 -- why no book was begun, where the file was read: a call of the admin failed, or there was no memory. The admin comes back
-abbrev pub IsNotBegun : {A : Type 0} → (A → ℕ) → A → Option A → End → Type 0
-IsNotBegun faults admin None end = ⊥
-IsNotBegun faults admin (Some back) NotDrained = HasRisen (faults admin) (faults back)
-IsNotBegun faults admin (Some back) Memory = Unit {0}
-IsNotBegun faults admin (Some back) _ = ⊥
+abbrev pub IsNotBegun : {A : Type 0} → Gate A → A → Option A → End → Type 0
+IsNotBegun gate admin None end = ⊥
+IsNotBegun gate admin (Some back) NotDrained = HasRisen (gate.faults admin) (gate.faults back)
+IsNotBegun gate admin (Some back) Memory = Unit {0}
+IsNotBegun gate admin (Some back) _ = ⊥
 
 -- what was left of a file that was read
-abbrev pub IsLeft : {A : Type 0} → (A → ℕ) → Meaning → CrewAsked → Outside → Outside → List ServedView → A → Option A → Option (BookView A) → End → Type 0
-IsLeft faults m crew old new links admin back None end = IsNotBegun faults admin back end × IsIdle old new links
-IsLeft faults m crew old new links admin back (Some c) end = IsOver m crew old new links c end
+abbrev pub IsLeft : {A : Type 0} → Gate A → Meaning → CrewAsked → Outside → Outside → List ServedView → A → Option A → Option (BookView A) → End → Type 0
+IsLeft gate m crew old new links admin back None end = IsNotBegun gate admin back end × IsIdle old new links
+IsLeft gate m crew old new links admin back (Some c) end = IsOver gate m crew old new links c end
 
 -- ---- by the words
 
--- the contents of the files, and the counts of their faults before and after
+-- the contents of the files, and the counts of their faults and the names of those that were loaded, before and after
 pub record Shelf : Type 0 where
   pub told : List ℕ → Option (List ℕ)
   pub before : ℕ
   pub now : ℕ
+  pub log_before : Option (List (List ℕ))
+  pub log_now : Option (List (List ℕ))
 
-abbrev pub shelf : {F : Type 0} → (F → List ℕ → Option (List ℕ)) → (F → ℕ) → F → F → Shelf
-shelf contents faults old new = record { told = contents old; before = faults old; now = faults new }
+abbrev pub shelf : {F : Type 0} → (F → List ℕ → Option (List ℕ)) → (F → ℕ) → (F → Option (List (List ℕ))) → F → F → Shelf
+shelf contents faults log old new = record {
+  told = contents old;
+  before = faults old;
+  now = faults new;
+  log_before = log old;
+  log_now = log new;
+}
+
+-- just the file that is asked for was loaded
+abbrev pub IsLoaded : Shelf → LiveAsked → Type 0
+IsLoaded files asked = files.log_now ≡ with_name files.log_before asked.file
 
 -- the words ask it for a file, and P holds of what is asked and of what the file means
-pub record IsLiveAnswer (words : List (List ℕ)) (told : List ℕ → Option (List ℕ)) (P : LiveAsked → Meaning → Type 0) : Type 0 where
+pub record IsLiveAnswer (words : List (List ℕ)) (files : Shelf) (P : LiveAsked → Meaning → Type 0) : Type 0 where
   pub asked : LiveAsked
   pub means : live_command words ≡ Some asked
+  pub loaded : IsLoaded files asked
   pub file : Meaning
-  pub meant : IfSome (told asked.file) (λ bytes. Means bytes file)
+  pub meant : IfSome (files.told asked.file) (λ bytes. Means bytes file)
   pub answered : P asked file
 
 -- the words ask it for a file that is refused, and the line tells its first fault
-pub record IsLiveRefusal (words : List (List ℕ)) (told : List ℕ → Option (List ℕ)) (line : List ℕ) : Type 0 where
+pub record IsLiveRefusal (words : List (List ℕ)) (files : Shelf) (line : List ℕ) : Type 0 where
   pub asked : LiveAsked
   pub means : live_command words ≡ Some asked
+  pub loaded : IsLoaded files asked
   pub fault : Fault
-  pub refused : IfSome (told asked.file) (λ bytes. IsRefused bytes fault)
+  pub refused : IfSome (files.told asked.file) (λ bytes. IsRefused bytes fault)
   pub line_is : line ≡ refusal_line fault
 
 -- the words ask for more copiers than there are beside that of the console
@@ -175,16 +201,20 @@ pub record IsTooMany (words : List (List ℕ)) (copiers : ℕ) : Type 0 where
   pub means : live_command words ≡ Some asked
   pub few : copiers ≤ copiers_before asked.crew
 
+-- the words are no such command, or ask for too many copiers
+abbrev pub IsUnasked : List (List ℕ) → ℕ → Type 0
+IsUnasked words copiers = (live_command words ≡ None) ⊎ IsTooMany words copiers
+
 -- why no file was read, by how the run ended
 abbrev pub IsUnread : List (List ℕ) → ℕ → Shelf → End → Type 0
-IsUnread words copiers files Usage = (live_command words ≡ None) ⊎ IsTooMany words copiers
-IsUnread words copiers files (Refused line) = IsLiveRefusal words files.told line.items
+IsUnread words copiers files Usage = IsUnasked words copiers × (files.log_now ≡ files.log_before)
+IsUnread words copiers files (Refused line) = IsLiveRefusal words files line.items
 IsUnread words copiers files FileFault = ((asked : LiveAsked) × (live_command words ≡ Some asked)) × HasRisen files.before files.now
 IsUnread words copiers files Memory = Unit {0}
 IsUnread words copiers files _ = ⊥
 
 -- what a run left: no file was read, and the admin comes back; or what is left of the file that the words ask for
-abbrev pub Leaves : {A : Type 0} → (A → ℕ) → List (List ℕ) → Shelf → Outside → Outside → List ServedView → A → Option A → Option (BookView A) → End → Type 0
-Leaves faults words files old new links admin back book end =
+abbrev pub Leaves : {A : Type 0} → Gate A → List (List ℕ) → Shelf → Outside → Outside → List ServedView → A → Option A → Option (BookView A) → End → Type 0
+Leaves gate words files old new links admin back book end =
     (IsUnread words (length old.copiers) files end × (book ≡ None) × (back ≡ Some admin) × IsIdle old new links)
-    ⊎ IsLiveAnswer words files.told (λ asked m. IsLeft faults m asked.crew old new links admin back book end)
+    ⊎ IsLiveAnswer words files (λ asked m. IsLeft gate m asked.crew old new links admin back book end)

@@ -26,7 +26,7 @@ use Rattle.cc_program.specs.declared.quiet.LoadFault.TheVariants as fault
 abbrev pub IsMade : (List ℕ → Option (List ℕ)) → Asked → Meaning → List ℕ → End → Type 0
 IsMade told (plan name trace ask) m text end = IsPlanned trace (planned_for ask m) (goals_of ask) text end
 IsMade told (check name trace ask) m text end = IsChecked (told trace) (planned_for ask m) (goals_of ask) text end
-IsMade told (apply name ask) m text end = IsApplied (planned_for ask m) (goals_of ask) text end
+IsMade told (apply name ask) m text end = IsApplied m ask text end
 IsMade told (gen seed brokers partitions file ask) m text end = IsGenerated file (cluster_text seed brokers partitions) (planned_for ask m) (goals_of ask) text end
 IsMade told (session name) m text end = ⊥
 

@@ -1,5 +1,6 @@
 -- What `session` does: it answers the requests of the input over a book of a cluster in memory.
-use Rattle.std.specs.Prelude.{◌≡◌, [], Some}
+use Rattle.std.specs.Prelude.{◌≡◌, ◌⊎◌, ℕ, List, [], None, Some}
+use Rattle.std.specs.List.{AllByRecursion}
 use Rattle.cc_base.specs.Outside.{HasRisen}
 use Rattle.cluster_gate.specs.declared.memory.MemoryCluster.{MemoryCluster}
 use Rattle.cluster_json.specs.File.{Meaning}
@@ -10,10 +11,14 @@ use Rattle.mover_rounds.specs.Asked.{entries_from}
 use Rattle.mover_rounds.specs.Made.{Copies, failures_of}
 use Rattle.mover_rounds.specs.declared.drains.DrainEnd.{DrainEnd}
 use Rattle.mover_rounds.specs.declared.drains.DrainEnd.TheVariants as drain
+use Rattle.rest_session.specs.Answered.{fault_told}
 use Rattle.rest_session.specs.Sessions.{IsSession}
 use Rattle.rest_session.specs.declared.session.LinkEnd.{LinkEnd}
 use Rattle.rest_session.specs.declared.session.LinkEnd.TheVariants as link
 use Rattle.rest_session.specs.declared.whole.SessionEnd.{SessionEnd}
+use Rattle.rest_stream.specs.Stream.{Requests, closed, stopped}
+use Rattle.rest_stream.specs.declared.raw.RawRequest.{RawRequest}
+use Rattle.rest_stream.specs.declared.raw.Stop.TheVariants as stop
 use Rattle.cc_program.specs.Edges.{Console}
 use Rattle.cc_program.specs.declared.ends.End.{End}
 use Rattle.cc_program.specs.declared.ends.End.TheVariants.{Done, InputCut, Memory, NotDrained, ReadFault, WriteFault}
@@ -38,8 +43,13 @@ ended_by link.Memory d = Memory
 abbrev pub no_copies : Copies
 no_copies = record { made = Some []; faults = 0 }
 
+-- the input is whole requests: the last of them closes it, or it ends behind the last
+pub record IsWholeInput (stream : List ℕ) : Type 0 where
+  pub raws : List RawRequest
+  pub ends : Requests 0 stream raws closed ⊎ Requests 0 stream raws (stopped stop.End)
+
 -- a whole session over the cluster that a file means: a legal history, in which no copy failed, of the entries that answered the requests,
--- one Close, and the rounds of a drain
+-- one Close, and the rounds of a drain. No reply tells a fault of the admin
 pub record IsSessionOf (m : Meaning) (io : Console) (end : SessionEnd) : Type 0 where
   pub before : BookView MemoryCluster
   pub after : BookView MemoryCluster
@@ -49,6 +59,7 @@ pub record IsSessionOf (m : Meaning) (io : Console) (end : SessionEnd) : Type 0 
   pub legal : AreLegal after.journal
   pub drained : end.drain ≡ drain.Drained → IsDone (state_of after).desk
   pub no_failure : failures_of (entries_from [] after.journal) ≡ 0
+  pub no_admin_fault : AllByRecursion (λ p. fault_told p.told_is ≡ None) session.answered.pieces
   pub read_fault : end.link ≡ link.ReadFault → HasRisen io.in_before io.in_now
   pub write_fault : end.link ≡ link.WriteFault → HasRisen io.out_before io.out_now
 

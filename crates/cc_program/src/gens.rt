@@ -51,8 +51,8 @@ fn failed(alloc: Global, failure: &Failure) -> Result<Answer, Memory>
     Ok(Answer { text, end })
 }
 
-// Plans for a cluster and a list of goals, and sums up.
-fn summary(alloc: Global, loaded: &Loaded, goals: &GoalList) -> Result<Answer, Memory>
+/// Plans for a cluster and a list of goals, and sums up.
+pub fn summary(alloc: Global, loaded: &Loaded, goals: &GoalList) -> Result<Answer, Memory>
     requires { Belongs loaded.now.case loaded.now.lists }
     ensures { IfOk result (λ a. IsSummary (cluster_lists loaded.now) goals.now a.text.items a.end) }
 {

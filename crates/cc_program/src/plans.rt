@@ -9,6 +9,8 @@ ghost use Rattle.serde_json.specs.View.{view};
 ghost use Rattle.cluster_json.specs.Ranges.{IsFile};
 ghost use Rattle.cluster_json.specs.Views.{file_seen};
 ghost use Rattle.core_terms.specs.Asked.{goals_of};
+ghost use Rattle.goal_set.specs.Kinds.{name_of};
+ghost use Rattle.cc_program.specs.Ends.{IsFailureEnd};
 ghost use Rattle.cc_program.specs.Input.{cluster_lists, planned_for};
 ghost use Rattle.cc_program.specs.Planned.{IsFailed, IsPlanned, failure_json, failure_text, plan_text};
 
@@ -91,6 +93,17 @@ fn failure_text(
         return ended(trace_text(alloc, failure.trace())?);
     }
     ended(failure_json(alloc, goal.name(), failure.measure())?)
+}
+
+/// The goal that failed, with its measure, and its line.
+#[tactic(auto, unfolding(crate::specs::Planned::failure_text))]
+pub fn goal_failed_with(alloc: Global, goal: GoalKind, left: u128) -> Result<Answer, Memory>
+    ensures text { IfOk result (λ a. a.text.items ≡ failure_json (name_of goal) left ++ 10 ∷ []) }
+    ensures end { IfOk result (λ a. IsFailureEnd goal a.end) }
+{
+    let end = goal_failed(alloc, goal)?;
+    let text = ended(failure_json(alloc, goal.name(), left)?)?;
+    Ok(Answer { text, end })
 }
 
 /// What is told of a failure.

@@ -8,6 +8,7 @@ ghost use Rattle.cluster_json.specs.Views.{file_seen};
 ghost use Rattle.core_terms.specs.Asked.{goals_of};
 ghost use Rattle.cc_program.specs.Checked.{IsChecked};
 ghost use Rattle.cc_program.specs.Commands.{Asked, AsksSession, HasFile, IsInputKept, asked, command, source_of, with_source};
+ghost use Rattle.cc_program.specs.Complete.{HasFailed, IsWell, IsWellGiven};
 ghost use Rattle.cc_program.specs.Edges.{edge, io_of};
 ghost use Rattle.cc_program.specs.Ends.{IsTold, line_of, status_of};
 ghost use Rattle.cc_program.specs.Input.{IsRefused, planned_for};
@@ -134,7 +135,7 @@ fn perform<F: Files, L: Link>(
             planning,
             ..
         } => write(console, plan(alloc, file, &planning, trace)),
-        Request::Apply { planning, .. } => write(console, apply(alloc, file, &planning)),
+        Request::Apply { planning, .. } => write(console, apply(alloc, file, planning)),
         Request::Gen {
             recipe,
             whole,
@@ -225,6 +226,8 @@ pub fn run_quiet<R: Threads + Sync, F: Files, L: Link, O: Sink>(
     ensures loaded_alone { result ≡ 3 → LoadsFile (map string_bytes words.now) (F.log files.old) (F.log files.new) }
     ensures alone { (asked : Asked) (bytes : List ℕ) (fault : Fault) → command (map string_bytes words.now) ≡ Some asked → source_of (F.contents files.old) asked ≡ Some bytes
         → IsRefused bytes fault → (F.log files.new ≡ F.log files.old) ⊎ (F.log files.new ≡ with_source (F.log files.old) asked) }
+    // 0, 4 of a plan, 11 of a trace, or 9: wherever all that was given is as it should be, and no call outside failed.
+    ensures complete { (asked : Asked) → IsWellGiven (map string_bytes words.now) (edge F.contents F.faults files.old files.new (io_of L.left L.Source.faults L.Sink.faults L.written console.old console.new)) asked → IsWell asked result ⊎ (result ≡ 9) ⊎ HasFailed (edge F.contents F.faults files.old files.new (io_of L.left L.Source.faults L.Sink.faults L.written console.old console.new)) }
     // Only a session reads the input.
     ensures left_alone { AsksSession (map string_bytes words.now) ⊎ ((L.left console.new ≡ L.left console.old) × (L.Source.faults console.new ≡ L.Source.faults console.old)) }
     // Counts never fall.

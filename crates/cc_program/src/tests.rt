@@ -5,19 +5,24 @@ mod rows;
 mod sessions;
 mod summaries;
 
+use crate::gens::summary;
+use crate::input::loaded_for;
 use crate::quiet::run_quiet;
 use cc_base::{
     Failing, FileFault, Files, Joined, MemoryFile, MemoryFiles, MemorySink, MemorySource,
 };
+use cluster_json::read_cluster;
 use clusters::CLUSTERS;
+use core_cases::goals_of;
 use goals::GOALS;
 use rows::{ROWS, Row, TRACES, TURNS, WITHOUT_MEMORY};
-use sessions::{MOVES, SESSIONS, TWO_BROKERS};
+use sessions::{DEMOTION_SUMMARY, LED_BY_0, MOVES, SESSIONS, TWO_BROKERS};
 use std::alloc::{AllocError, Global};
 use std::process::Abort;
 use std::test::Fail;
 use std::thread::Threads;
 use summaries::SUMMARIES;
+use user_tasks::{Ask, ListOf, Op};
 
 // Files of which none can be loaded for want of memory.
 #[derive(Drop)]
@@ -204,15 +209,16 @@ fn clusters_are_made(rt: HostRuntime) -> Result<(), Fail> {
     expect_good(&rt, cluster)
 }
 
-// Runs a session over two brokers, of whose input or output one call fails, if it is to.
+// Runs a session over a cluster, of whose input or output one call fails, if it is to.
 fn session<R: Threads + Sync + AllocGlobal>(
     rt: &R,
+    cluster: &str,
     requests: &str,
     read: Option<u64>,
     write: Option<u64>,
 ) -> Result<(u8, Vec<u8>, Vec<u8>), AllocError> {
     let alloc = rt.alloc();
-    let mut files = files_of(alloc, TWO_BROKERS, "")?;
+    let mut files = files_of(alloc, cluster, "")?;
     let input = source(alloc, requests, read)?;
     run(
         rt,
@@ -225,8 +231,8 @@ fn session<R: Threads + Sync + AllocGlobal>(
 
 #[test]
 fn sessions_are_answered(rt: HostRuntime) -> Result<(), Fail> {
-    for (requests, status, replies, line) in SESSIONS {
-        let (ended, out, err) = session(&rt, requests, None, None)?;
+    for (cluster, requests, status, replies, line) in SESSIONS {
+        let (ended, out, err) = session(&rt, cluster, requests, None, None)?;
         assert_eq!(rt; str::from_utf8(&out).unwrap_or("no text"), replies);
         assert_eq!(rt; ended, status);
         assert_eq!(rt; err.as_slice(), line.as_bytes());
@@ -234,15 +240,50 @@ fn sessions_are_answered(rt: HostRuntime) -> Result<(), Fail> {
     Ok(())
 }
 
+// What is told of a plan that takes no leader from the broker 0, where leaders alone may change.
+fn demotion(alloc: Global, cluster: &str) -> Result<Vec<u8>, Fail> {
+    let Ok(file) = read_cluster(alloc, cluster.as_bytes()) else {
+        return Err(Fail::from("refused"));
+    };
+    let ask = Ask {
+        op: Op::DemoteBroker,
+        brokers: ListOf::new(vec![in alloc; 0]?),
+        goals: ListOf::new(Vec::new(alloc)),
+        skip: false,
+        excluded: ListOf::new(Vec::new(alloc)),
+        dryrun: false,
+    };
+    let Ok(goals) = goals_of(alloc, &ask) else {
+        return Err(Fail::from("no goals"));
+    };
+    let Ok(loaded) = loaded_for(alloc, file, &ask) else {
+        return Err(Fail::from("want of memory"));
+    };
+    match summary(alloc, &loaded, &goals) {
+        Ok(answer) => Ok(answer.text),
+        Err(_) => Err(Fail::from("want of memory")),
+    }
+}
+
+#[test]
+fn a_demotion_ends_where_no_leader_can_go(rt: HostRuntime) -> Result<(), Fail> {
+    let summary = demotion(rt.alloc(), LED_BY_0)?;
+    assert_eq!(rt;
+        str::from_utf8(&summary).unwrap_or("no text"),
+        DEMOTION_SUMMARY
+    );
+    Ok(())
+}
+
 #[test]
 fn each_read_and_each_write_may_fail(rt: HostRuntime) -> Result<(), Fail> {
-    let (_, whole, _) = session(&rt, MOVES, None, None)?;
+    let (_, whole, _) = session(&rt, TWO_BROKERS, MOVES, None, None)?;
     for number in 0..2 {
-        let (status, _, line) = session(&rt, MOVES, Some(number), None)?;
+        let (status, _, line) = session(&rt, TWO_BROKERS, MOVES, Some(number), None)?;
         assert_eq!(rt; (status, line.as_slice()), (6, b"read fault\n".as_slice()));
     }
     for number in 0..4 {
-        let (status, out, line) = session(&rt, MOVES, None, Some(number))?;
+        let (status, out, line) = session(&rt, TWO_BROKERS, MOVES, None, Some(number))?;
         assert_eq!(rt; (status, line.as_slice()), (7, b"write fault\n".as_slice()));
         assert!(rt; whole.starts_with(&out));
     }

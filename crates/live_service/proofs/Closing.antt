@@ -31,12 +31,12 @@ any_in xs all p e = subst (λ ys. list_any is_close ys ≡ true) p.1 (list_any-a
 
 module _ (file : Meaning) (law : ClosingWasAsked) (v w : Pass) where
   refused : (f : StepFault) (back : Event) → IsRefused blame_of IsWant is_sure_after is_outward file v w event.Close (f, back) → IsClosed v w
-  refused Memory back r = inr (record { longer = r.longer; mine = r.mine; closed = law file w.seen (not_false (state_after file w.seen).desk.closing (r.unsure refl)) })
+  refused Memory back r = inr (record { longer = r.longer; mine = r.mine; last = r.kept refl; closed = law file w.seen (not_false (state_after file w.seen).desk.closing (r.unsure refl)) })
   refused (AdminFault zero) back r = absurd (r.want.0 refl)
   refused (AdminFault (suc n)) back r = absurd (let h : false ≡ true = r.outward_is (omega arith) in cc)
 
   pub closed_by : (r : Result Reply (StepFault × Event)) → IfOk r (HasActed reply_after file v w event.Close) → IfErr r (IsRefused blame_of IsWant is_sure_after is_outward file v w event.Close) → IsClosed v w
-  closed_by (Ok y) a b = inl (record { before = v.seen ++ a.between; longer = (a.between, refl); mine = a.mine; seen = a.seen })
+  closed_by (Ok y) a b = inl (record { before = v.seen ++ a.between; longer = (a.between, refl); mine = a.mine; seen = a.seen; last = a.last })
   closed_by (Err y) a b = refused y.0 y.1 b
 
 -- Close was asked, whoever asked it

@@ -1,5 +1,5 @@
 -- Workers, one beside another.
-use Rattle.std.proofs.Common.{◌≡◌, ◌<◌, ℕ, suc, slice_index_or, List, [], ◌∷◌, ◌++◌, length, map, refl, ap, sym, ◌∙◌, subst, append_assoc, append-nil, arith}
+use Rattle.std.proofs.Common.{◌≡◌, ◌<◌, ◌≤◌, ℕ, suc, slice_index_or, List, [], ◌∷◌, ◌++◌, length, map, refl, ap, sym, ◌∙◌, subst, append_assoc, append-nil, arith}
 use Rattle.std.specs.List.{remove}
 use mathlib.Core.List.{IsPrefix}
 use Rattle.cluster_json.specs.File.{Meaning}
@@ -9,18 +9,22 @@ use Rattle.mover_rounds.proofs.Prefixes.{prefix_self, prefix_trans}
 use Rattle.mover_workers.specs.Callers.{IsLater}
 use Rattle.turn_book.specs.Known.{HasJoined, IsCut}
 use Rattle.turn_book.specs.Rule.{ArePlaced}
-use Rattle.live_service.specs.Workers.{AllSaw, HasMovedOnce, HasPlannedOnce, HasRun, HasRunAll, HasShares, Mover, Pass, Planner, shares_of}
+use Rattle.live_service.specs.Workers.{AllSaw, AllTold, HasMovedOnce, HasPlannedOnce, HasRun, HasRunAll, HasShares, Mover, Pass, Planner, shares_of}
 
 saw_on : (h g : List Event) → IsPrefix h g → (ps : List Pass) → AllSaw h ps → AllSaw g ps
 saw_on h g p [] a = tt
 saw_on h g p (q ∷ ps) a = (prefix_trans q.seen h g a.0 p, saw_on h g p ps a.1)
+
+told_on : (m n : ℕ) → m ≤ n → (ps : List Pass) → AllTold m ps → AllTold n ps
+told_on m n p [] a = tt
+told_on m n p (q ∷ ps) a = (omega (arith, a.0, p), told_on m n p ps a.1)
 
 mine_more : (a b c d e : List (ℕ × Event)) → e ≡ c ++ d → c ≡ a ++ b → e ≡ a ++ (b ++ d)
 mine_more a b c d e p q = p ∙ (ap (λ xs. xs ++ d) q ∙ append_assoc a b d)
 
 -- no other pass yet
 pub shares_none : (v : Pass) → HasShares v v []
-shares_none v = record { mine = sym (append-nil v.mine); saw = tt; longer = prefix_self v.seen }
+shares_none v = record { mine = sym (append-nil v.mine); saw = tt; longer = prefix_self v.seen; told = tt; last = omega arith }
 
 -- one more, which was joined
 pub shares_more : (v u back w : Pass) (ps : List Pass) → HasJoined u back w → HasShares v u ps → HasShares v w (back ∷ ps)
@@ -28,6 +32,8 @@ shares_more v u back w ps joined h = record {
   mine = mine_more v.mine (shares_of ps) u.mine back.mine w.mine joined.mine h.mine;
   saw = (joined.longer.1, saw_on u.seen w.seen joined.longer.0 ps h.saw);
   longer = prefix_trans v.seen u.seen w.seen h.longer joined.longer.0;
+  told = (omega (arith, joined.last), told_on u.last w.last (omega (arith, joined.last)) ps h.told);
+  last = omega (arith, h.last, joined.last);
 }
 
 -- the front of shares has the entries that a pass had before it was split
@@ -36,6 +42,8 @@ shares_of_whole v kept own w ps cut h = record {
   mine = h.mine ∙ ap (λ xs. xs ++ shares_of ps) cut.mine.0;
   saw = h.saw;
   longer = subst (λ s. IsPrefix s w.seen) cut.seen.0 h.longer;
+  told = h.told;
+  last = omega (arith, h.last, cut.last.0);
 }
 
 -- a pass that is split, used on both sides, and joined again

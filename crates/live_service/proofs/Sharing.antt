@@ -26,7 +26,7 @@ all_of b c w empty whole = record {
 
 pub shared_by : {A : Type 0} (Did : List Copies → List Copies → Pass → Pass → Type 0) (b c : BookView A) (given w : Pass) (old new : List Copies) (movers planners : ℕ) → b.journal ≡ [] → given.mine ≡ [] → HasRunAll Did b.file given w old new movers planners
     → IsWhole (λ x. x.file) (λ x. x.journal) (λ x. x.failures) b w c → IsShared Did b c old new movers planners
-shared_by Did b c given w old new movers planners empty fresh run whole = record { given = given; fresh = fresh; back = w; run = run; file_is = whole.opening_is; shares = all_of b c w empty whole; saw = whole.seen }
+shared_by Did b c given w old new movers planners empty fresh run whole = record { given = given; fresh = fresh; back = w; run = run; file_is = whole.opening_is; shares = all_of b c w empty whole; saw = whole.seen; told = whole.last }
 
 -- Close stands in the journal of a front that was shared
 pub is_closed : {A : Type 0} (Answered : List Copies → List Copies → Pass → Pass → Type 0) (b c : BookView A) (old new : List Copies) (movers planners : ℕ) → IsShared (λ xs ys. HasFronted (Answered xs ys)) b c old new movers planners
@@ -48,4 +48,11 @@ pub is_late : {A : Type 0} (faults : A → ℕ) (o b c : BookView A) → b ≡ r
 is_late faults o b c same since risen = elim (cases_lt b.failures c.failures) [
   | inl m ↦ inl (since.late (ap (λ x. x.settled) same) m)
   | inr m ↦ inr (omega (arith, m, risen))
+]
+
+-- and a fault behind which a book stands came with a failed call of the admin
+pub is_risen : {A : Type 0} (faults : A → ℕ) (b c : BookView A) → IsSince faults b c → HasRisen b.failures c.failures → c.failures ≤ faults c.admin → HasRisen (faults b.admin) (faults c.admin)
+is_risen faults b c since risen few = elim (cases_lt b.failures c.failures) [
+  | inl m ↦ since.risen m
+  | inr m ↦ omega (arith, m, risen, few)
 ]

@@ -226,4 +226,5 @@ module _ {A : Type 0} (asked : Option ℕ) (f g : FrontView) (links : List Serve
     file_is = h.file_is;
     shares = h.shares;
     saw = h.saw;
+    told = h.told;
   }

@@ -12,6 +12,7 @@ pub record WasClosed (v w : Pass) : Type 0 where
   pub longer : IsPrefix v.seen w.seen
   pub mine : w.mine ≡ v.mine
   pub closed : list_any is_close w.seen ≡ true
+  pub last : w.last ≡ v.last
 
 abbrev pub IsClosed : Pass → Pass → Type 0
 IsClosed v w = HasClosed v w ⊎ WasClosed v w

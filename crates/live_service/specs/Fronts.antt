@@ -99,6 +99,7 @@ pub record HasClosed (v w : Pass) : Type 0 where
   pub longer : IsPrefix v.seen before
   pub mine : w.mine ≡ v.mine ++ (length before, event.Close) ∷ []
   pub seen : w.seen ≡ before ++ event.Close ∷ []
+  pub last : w.last ≡ v.last
 
 -- what was asked was answered, and then the one Close of the journal was asked
 pub record IsFront (Answered : Pass → Pass → Type 0) (v w : Pass) : Type 0 where

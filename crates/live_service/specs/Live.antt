@@ -1,12 +1,15 @@
 -- A live service: requests, planners and movers beside one another, over one book.
-use Rattle.std.specs.Prelude.{◌≡◌, ℕ, true, List, [], length, Option}
+use Rattle.std.specs.Prelude.{◌≡◌, ◌≤◌, ℕ, true, List, [], length, Option}
 use mathlib.Core.List.{IsPrefix}
+use Rattle.cc_base.specs.Outside.{HasRisen}
 use Rattle.control_core.specs.Books.{BookView}
 use Rattle.core_terms.specs.declared.events.Event.{Event}
 use Rattle.mover_rounds.specs.Made.{Copies}
+use Rattle.mover_rounds.specs.Drained.{IsDrainCause}
 use Rattle.mover_rounds.specs.Exact.{HasDrainedAlone}
-use Rattle.mover_rounds.specs.Owned.{known_by_owner}
+use Rattle.mover_rounds.specs.Owned.{IsSince, known_by_owner}
 use Rattle.mover_rounds.specs.declared.drains.DrainEnd.{DrainEnd}
+use Rattle.mover_rounds.specs.declared.drains.DrainEnd.TheVariants as drain
 use Rattle.turn_book.specs.Rule.{ArePlaced, once_below, times}
 use Rattle.live_service.specs.Fronts.{HasAnswered, IsFront}
 use Rattle.live_service.specs.Views.{FrontView, ServedView}
@@ -19,7 +22,7 @@ pub record AreAllOf (journal : List Event) (mine : List (ℕ × Event)) : Type 0
   pub placed : ArePlaced journal mine
 
 -- the journal of a book that was just opened is now that of a front, of movers and of planners that ran beside one another: each place
--- of it is in just one of their shares
+-- of it is in just one of their shares, and no share was told more faults of the admin than the book answered
 pub record IsShared {A : Type 0} (Did : List Copies → List Copies → Pass → Pass → Type 0) (b c : BookView A) (old new : List Copies) (movers planners : ℕ) : Type 0 where
   pub given : Pass
   pub fresh : given.mine ≡ []
@@ -28,13 +31,21 @@ pub record IsShared {A : Type 0} (Did : List Copies → List Copies → Pass →
   pub file_is : c.file ≡ b.file
   pub shares : AreAllOf c.journal back.mine
   pub saw : IsPrefix back.seen c.journal
+  pub told : back.last ≤ c.failures
+
+-- what a drain that ended so did to a settled book: the rounds, and the cause of a fault of the admin, whose calls failed in the drain
+pub record IsBehind {A : Type 0} (faults : A → ℕ) (b c : BookView A) (k l : Copies) (end : DrainEnd) : Type 0 where
+  pub since : IsSince faults b c
+  pub drained : HasDrainedAlone (known_by_owner b) (known_by_owner c) k l end
+  pub cause : IsDrainCause (known_by_owner b) (known_by_owner c) end
+  pub risen : (number : ℕ) → end ≡ drain.AdminFault number → HasRisen (faults b.admin) (faults c.admin)
 
 -- a live service: what was asked was answered, and then Close was asked, which no other actor did; behind the shares of all come the
--- rounds of a drain
-pub record IsLive {A : Type 0} (asked : Option ℕ) (b c : BookView A) (old new : List Copies) (movers planners : ℕ) (f g : FrontView) (links : List ServedView) (end : FrontEnd) (drain : DrainEnd) : Type 0 where
+-- rounds of a drain over the settled book
+pub record IsLive {A : Type 0} (faults : A → ℕ) (asked : Option ℕ) (b c : BookView A) (old new : List Copies) (movers planners : ℕ) (f g : FrontView) (links : List ServedView) (end : FrontEnd) (drain : DrainEnd) : Type 0 where
   pub closed : BookView A
   pub between : Copies
   pub shared : IsShared (λ xs ys. IsFront (HasAnswered b.file asked f (record g { copier = between }) links end xs ys)) b closed old new movers planners
   pub settled : BookView A
   pub settled_is : settled ≡ record closed { settled = true }
-  pub drained : HasDrainedAlone (known_by_owner settled) (known_by_owner c) between g.copier drain
+  pub behind : IsBehind faults settled c between g.copier drain

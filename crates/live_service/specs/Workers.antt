@@ -1,5 +1,5 @@
 -- The workers that run while a front serves: what each of them made.
-use Rattle.std.specs.Prelude.{◌≡◌, ℕ, List, [], ◌∷◌, ◌++◌, length, map}
+use Rattle.std.specs.Prelude.{◌≡◌, ◌≤◌, ℕ, List, [], ◌∷◌, ◌++◌, length, map}
 use Rattle.std.specs.List.{AllByRecursion}
 use mathlib.Core.List.{IsPrefix}
 use Rattle.cluster_json.specs.File.{Meaning}
@@ -50,11 +50,18 @@ shares_of (p ∷ ps) = shares_of ps ++ p.mine
 abbrev pub AllSaw : List Event → List Pass → Type 0
 AllSaw history passes = AllByRecursion (λ p. IsPrefix p.seen history) passes
 
--- a pass that was behind a front's has its entries, and then those of these passes, each of which saw no more than it
+-- each of these passes was told no fault of the admin behind this one
+abbrev pub AllTold : ℕ → List Pass → Type 0
+AllTold last passes = AllByRecursion (λ p. p.last ≤ last) passes
+
+-- a pass that was behind a front's has its entries, and then those of these passes, each of which saw no more than it, nor was told a
+-- later fault of the admin
 pub record HasShares (front back : Pass) (passes : List Pass) : Type 0 where
   pub mine : back.mine ≡ front.mine ++ shares_of passes
   pub saw : AllSaw back.seen passes
   pub longer : IsPrefix front.seen back.seen
+  pub told : AllTold back.last passes
+  pub last : front.last ≤ back.last
 
 -- a mover's loop was made once, and a planner's
 abbrev pub HasMovedOnce : Meaning → Pass → Pass → Copies → Copies → Type 0

@@ -118,7 +118,7 @@ where
     requires few { planners + (movers + links_of serving) < 1048576 }
     requires none { front.service.served.items ≡ [] }
     requires room { links_of serving ≤ vec_capacity front.service.served }
-    ensures live { IfOk result (λ r. IsLive (links_asked serving) book r.book (map (copier_of K.copies K.faults) front.service.copiers.items) (map (copier_of K.copies K.faults) r.front.service.copiers.items) movers planners (front_of (copier_of K.copies K.faults) (link_of L.left L.written L.Source.faults L.Sink.faults) (net_of N.faults N.accepted) front.copier front.console front.service.listener) (front_of (copier_of K.copies K.faults) (link_of L.left L.written L.Source.faults L.Sink.faults) (net_of N.faults N.accepted) r.front.copier r.front.console r.front.service.listener) (map (served_of (link_of N.Conn.left N.Conn.written N.Conn.Source.faults N.Conn.Sink.faults)) r.front.service.served.items) r.end r.drain) }
+    ensures live { IfOk result (λ r. IsLive A.faults (links_asked serving) book r.book (map (copier_of K.copies K.faults) front.service.copiers.items) (map (copier_of K.copies K.faults) r.front.service.copiers.items) movers planners (front_of (copier_of K.copies K.faults) (link_of L.left L.written L.Source.faults L.Sink.faults) (net_of N.faults N.accepted) front.copier front.console front.service.listener) (front_of (copier_of K.copies K.faults) (link_of L.left L.written L.Source.faults L.Sink.faults) (net_of N.faults N.accepted) r.front.copier r.front.console r.front.service.listener) (map (served_of (link_of N.Conn.left N.Conn.written N.Conn.Source.faults N.Conn.Sink.faults)) r.front.service.served.items) r.end r.drain) }
     ensures file { IfOk result (λ r. r.book.file ≡ book.file) }
     ensures legal { IfOk result (λ r. AreLegal r.book.journal) }
     ensures lists { IfOk result (λ r. IfSome (A.told r.book.admin) (λ lists. lists ≡ lists_now (state_of r.book).desk.exec)) }
@@ -132,6 +132,7 @@ where
     book.settle();
     let drain = finish(alloc, &mut book, &mut front.copier);
     let _legal = book.journal();
+    let _few = book.failures();
     Ok(Live {
         book,
         front,

@@ -45,12 +45,12 @@ returned_from rules seen from to back (y ∷ z ∷ zs) p r = r
 
 cause_by : (v u w : Known) (e : Event) (f : StepFault) → IsUnasked v u e f → w.blamed ≡ u.blamed → IsPrefix u.seen w.seen → IsCause v w f
 cause_by v u w e (AdminFault n) un b p = (un.told.1 ∙ sym b, subst (λ x. HasRisen v.blamed x) (sym b) un.told.2, record { history = u.seen; longer = un.longer; saw = p; unfinished = ap (λ r. r.unfinished u.seen) (sym un.rules) ∙ un.told.3 })
-cause_by v u w e Memory un b p = tt
+cause_by v u w e Memory un b p = b ∙ un.told.1
 
 -- the cause of a call that another one ended with
 pub cause_earlier : (v u w : Known) (f : StepFault) → u.rules ≡ v.rules → IsPrefix v.seen u.seen → u.blamed ≡ v.blamed → IsCause u w f → IsCause v w f
 cause_earlier v u w (AdminFault n) e p b c = (c.0, subst (λ x. HasRisen x w.blamed) b c.1, record { history = c.2.history; longer = prefix_trans v.seen u.seen c.2.history p c.2.longer; saw = c.2.saw; unfinished = ap (λ r. r.unfinished c.2.history) (sym e) ∙ c.2.unfinished })
-cause_earlier v u w Memory e p b c = tt
+cause_earlier v u w Memory e p b c = c ∙ b
 
 -- and of one behind an entry
 pub cause_behind : (v u w : Known) (e : Event) (r : Reply) (f : StepFault) → HasAsked v u e r → IsCause u w f → IsCause v w f

@@ -60,10 +60,11 @@ pub record WasBusy (rules : Rules) (from to : List Event) : Type 0 where
   pub saw : IsPrefix history to
   pub unfinished : rules.unfinished history ≡ true
 
--- why a call ended: the admin's fault is the last one, and came in the call, while a task was unfinished
+-- why a call ended: the admin's fault is the last one, and came in the call, while a task was unfinished; with want of memory no fault
+-- of the admin came
 abbrev pub IsCause : Known → Known → StepFault → Type 0
 IsCause v w (AdminFault n) = (n ≡ w.blamed) × HasRisen v.blamed w.blamed × WasBusy v.rules v.seen w.seen
-IsCause v w Memory = Unit {0}
+IsCause v w Memory = w.blamed ≡ v.blamed
 
 -- one entry more
 pub record Added (v w : Known) (e : Event) : Type 0 where
@@ -228,10 +229,10 @@ IsPumped rules seen steps _ made copies = (n : ℕ) × (n < steps) × AreRounds 
 abbrev pub HasPumped : Known → Known → Copies → Copies → ℕ → PumpEnd → Type 0
 HasPumped v w k l steps end = HasMade (IsPumped v.rules w.seen steps end) v w k l
 
--- the admin's fault that ends a pump is the last one, and came in it, while a task was unfinished
+-- the admin's fault that ends a pump is the last one, and came in it, while a task was unfinished; with any other end none came
 abbrev pub IsPumpCause : Known → Known → PumpEnd → Type 0
 IsPumpCause v w (pump.AdminFault n) = IsCause v w (AdminFault n)
-IsPumpCause v w _ = Unit {0}
+IsPumpCause v w _ = w.blamed ≡ v.blamed
 
 -- so many rounds were done so far
 abbrev pub HasDone : Known → Known → Copies → Copies → ℕ → Type 0

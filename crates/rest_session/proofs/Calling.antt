@@ -17,7 +17,7 @@ use Rattle.rest_parse.specs.declared.calls.HttpFault.{HttpFault}
 use Rattle.rest_stream.specs.declared.raw.RawRequest.{RawRequest}
 use Rattle.rest_replies.specs.declared.told.Told.{Told}
 use Rattle.rest_replies.specs.declared.told.Told.TheVariants as told
-use Rattle.rest_session.specs.Answered.{HasAnswered, IsReplied}
+use Rattle.rest_session.specs.Answered.{HasAnswered, IsBlamed, IsReplied, fault_told}
 use Rattle.rest_session.specs.Calls.{HasCalled, HasDone, IsAskedOnce, IsDone, asked_by}
 use Rattle.rest_session.specs.declared.calls.Asked.{Asked}
 use Rattle.rest_session.specs.declared.calls.Asked.TheVariants as asked
@@ -99,5 +99,5 @@ fault_called v k m f h = record {
 }
 
 -- what was called, and the reply that tells it
-pub answered_by : {E : Type 0} (v w : Known) (k l : Copies) (raw : RawRequest) (t : Told) (old new : Option (List ℕ)) (result : Result (Unit {0}) E) → HasCalled v w k l (meaning raw) t → IsReplied t old new result → HasAnswered v w k l raw old new result
-answered_by v w k l raw t old new result h r = record { made = h.made; copies = h.copies; own = h.own; copied = h.copied; is = record { told_is = t; reply = r.0; called = h.is; reply_is = r.1; written = r.2 }; failed = h.failed; rules = h.rules; longer = h.longer }
+pub answered_by : {E : Type 0} (v w : Known) (k l : Copies) (raw : RawRequest) (t : Told) (old new : Option (List ℕ)) (result : Result (Unit {0}) E) → HasCalled v w k l (meaning raw) t → IsBlamed (fault_told t) v.blamed w.blamed → IsReplied t old new result → HasAnswered v w k l raw old new result
+answered_by v w k l raw t old new result h b r = record { made = h.made; copies = h.copies; own = h.own; copied = h.copied; is = record { told_is = t; reply = r.0; blamed = b; called = h.is; reply_is = r.1; written = r.2 }; failed = h.failed; rules = h.rules; longer = h.longer }

@@ -25,7 +25,7 @@ use Rattle.rest_stream.proofs.Leading.{leads_closed, leads_end, leads_on}
 use Rattle.rest_replies.specs.declared.told.Told.{Told}
 use Rattle.rest_replies.specs.declared.told.Told.TheVariants as told
 use Rattle.rest_session.specs.Calls.{IsCalled, IsDone, asked_by}
-use Rattle.rest_session.specs.Answered.{ArePieces, AreSoFar, Begins, HasAnswered, HasEnded, HasServed, HasSoFar, IsAnswered, IsPiece, IsRefused, IsServed, IsServing, IsStopped, Piece, end_of, in_order, raws_of, replies_of}
+use Rattle.rest_session.specs.Answered.{AreBlamed, ArePieces, AreSoFar, Begins, HasAnswered, HasEnded, HasServed, HasSoFar, IsAnswered, IsBlamed, IsPiece, IsRefused, IsServed, IsServing, IsStopped, Piece, end_of, fault_told, in_order, raws_of, replies_of}
 use Rattle.rest_session.specs.declared.calls.Asked.{Asked}
 use Rattle.rest_session.specs.declared.calls.Asked.TheVariants as asked
 use Rattle.rest_session.specs.declared.session.LinkEnd.{LinkEnd}
@@ -60,6 +60,10 @@ in_order_more : {A : Type 0} (f : Piece → List A) (ps : List Piece) (p : Piece
 in_order_more f [] p = append-nil (f p)
 in_order_more f (x ∷ ps) p = ap (λ y. f x ++ y) (in_order_more f ps p) ∙ sym (append_assoc (f x) (in_order f ps) (f p))
 
+blamed_more : (before between now : ℕ) (ps : List Piece) (p : Piece) → AreBlamed before between ps → IsBlamed (fault_told p.told_is) between now → AreBlamed before now (ps ++ p ∷ [])
+blamed_more before between now [] p h k = (now, subst (λ n. IsBlamed (fault_told p.told_is) n now) h k, refl)
+blamed_more before between now (x ∷ ps) p h k = (h.0, h.1, blamed_more h.0 between now ps p h.2 k)
+
 -- the bytes that are told, with two pieces at their end
 told_both : (old mid new : Option (List ℕ)) (a b : List ℕ) → mid ≡ appended old a → new ≡ appended mid b → new ≡ appended old (a ++ b)
 told_both None mid new a b p q = q ∙ ap (λ m. appended m b) p
@@ -74,12 +78,12 @@ take_behind (x ∷ a) b n =
 prefix_behind : (old mid new : Option (List ℕ)) (a b : List ℕ) → mid ≡ appended old a → IsPrefixOut mid new b → IsPrefixOut old new (a ++ b)
 prefix_behind old mid new a b p q = (length a + q.0, omega (arith, length-append a b, q.1), told_both old mid new a (take q.0 b) p q.2 ∙ ap (λ y. appended old y) (sym (take_behind a b q.0)))
 
-module _ (r q : Rules) (s t : List Event) (e : q ≡ r) (p : IsPrefix s t) (raw : RawRequest) where
+module _ (r q : Rules) (s t : List Event) (e : q ≡ r) (p : IsPrefix s t) (raw : RawRequest) (before now : ℕ) where
   -- the pieces with that of the request, whatever was written
-  piece_of : {E : Type 0} (mid new : Option (List ℕ)) (result : Result (Unit {0}) E) (m : List Entry) (c : List ChunkCopy) → IsAnswered raw mid new result q t m c → Piece
+  piece_of : {E : Type 0} (mid new : Option (List ℕ)) (result : Result (Unit {0}) E) (m : List Entry) (c : List ChunkCopy) → IsAnswered raw mid new result q t before now m c → Piece
   piece_of mid new result m c h = record { raw = raw; told_is = h.told_is; made = m; copies = c; reply = h.reply }
 
-  more_pieces : {E : Type 0} (mid new : Option (List ℕ)) (result : Result (Unit {0}) E) (ps : List Piece) (a : List Entry) (ca : List ChunkCopy) (b : List Entry) (cb : List ChunkCopy) → ArePieces r s ps a ca → (h : IsAnswered raw mid new result q t b cb)
+  more_pieces : {E : Type 0} (mid new : Option (List ℕ)) (result : Result (Unit {0}) E) (ps : List Piece) (a : List Entry) (ca : List ChunkCopy) (b : List Entry) (cb : List ChunkCopy) → ArePieces r s ps a ca → (h : IsAnswered raw mid new result q t before now b cb)
       → ArePieces r t (ps ++ piece_of mid new result b cb h ∷ []) (a ++ b) (ca ++ cb)
   unfolding piece_of
   more_pieces mid new result ps a ca b cb d h = record {
@@ -95,24 +99,26 @@ module _ (v u w : Known) (k j l : Copies) (old mid new : Option (List ℕ)) (raw
   -- its reply is out
   pub served_more : {E : Type 0} (x : Unit {0}) → HasAnswered {E = E} u w j l raw mid new (Ok x) → HasSoFar v w k l old new (raws ++ raw ∷ [])
   unfolding piece_of
-  served_more {E = E} x h = made_both (AreSoFar old mid raws v.rules u.seen) (IsAnswered {E = E} raw mid new (Ok x) u.rules w.seen) (AreSoFar old new (raws ++ raw ∷ []) v.rules w.seen) v u w k j l
+  served_more {E = E} x h = made_both (AreSoFar old mid raws v.rules u.seen v.blamed u.blamed) (IsAnswered {E = E} raw mid new (Ok x) u.rules w.seen u.blamed w.blamed) (AreSoFar old new (raws ++ raw ∷ []) v.rules w.seen v.blamed w.blamed) v u w k j l
       (λ a ca b cb d i. record {
-        pieces = d.pieces ++ piece_of v.rules u.rules u.seen w.seen so_far.rules h.longer raw {E = E} mid new (Ok x) b cb i ∷ [];
-        are = more_pieces v.rules u.rules u.seen w.seen so_far.rules h.longer raw mid new (Ok x) d.pieces a ca b cb d.are i;
-        raws_are = raws_more v.rules u.rules u.seen w.seen so_far.rules h.longer raw raws d.pieces (piece_of v.rules u.rules u.seen w.seen so_far.rules h.longer raw {E = E} mid new (Ok x) b cb i) d.raws_are refl;
-        out = told_both old mid new (replies_of d.pieces) i.reply d.out i.written ∙ ap (λ y. appended old y) (sym (in_order_more (λ y. y.reply) d.pieces (piece_of v.rules u.rules u.seen w.seen so_far.rules h.longer raw {E = E} mid new (Ok x) b cb i)));
+        pieces = d.pieces ++ piece_of v.rules u.rules u.seen w.seen so_far.rules h.longer raw u.blamed w.blamed {E = E} mid new (Ok x) b cb i ∷ [];
+        are = more_pieces v.rules u.rules u.seen w.seen so_far.rules h.longer raw u.blamed w.blamed mid new (Ok x) d.pieces a ca b cb d.are i;
+        blamed = blamed_more v.blamed u.blamed w.blamed d.pieces (piece_of v.rules u.rules u.seen w.seen so_far.rules h.longer raw u.blamed w.blamed {E = E} mid new (Ok x) b cb i) d.blamed i.blamed;
+        raws_are = raws_more v.rules u.rules u.seen w.seen so_far.rules h.longer raw u.blamed w.blamed raws d.pieces (piece_of v.rules u.rules u.seen w.seen so_far.rules h.longer raw u.blamed w.blamed {E = E} mid new (Ok x) b cb i) d.raws_are refl;
+        out = told_both old mid new (replies_of d.pieces) i.reply d.out i.written ∙ ap (λ y. appended old y) (sym (in_order_more (λ y. y.reply) d.pieces (piece_of v.rules u.rules u.seen w.seen so_far.rules h.longer raw u.blamed w.blamed {E = E} mid new (Ok x) b cb i)));
       }) so_far h
 
   -- the write failed within it
   pub served_cut : {E : Type 0} (left : Option (List ℕ)) (f : E) → IfSome left (λ s. Begins s (raws ++ raw ∷ [])) → HasAnswered u w j l raw mid new (Err f) → HasServed v w k l left old new end.WriteFault
   unfolding piece_of
-  served_cut left f begins h = made_both (AreSoFar old mid raws v.rules u.seen) (IsAnswered raw mid new (Err f) u.rules w.seen) (IsServed left old new v.rules w.seen end.WriteFault) v u w k j l
+  served_cut left f begins h = made_both (AreSoFar old mid raws v.rules u.seen v.blamed u.blamed) (IsAnswered raw mid new (Err f) u.rules w.seen u.blamed w.blamed) (IsServed left old new v.rules w.seen v.blamed w.blamed end.WriteFault) v u w k j l
       (λ a ca b cb d i.
-      let x : Piece = piece_of v.rules u.rules u.seen w.seen so_far.rules h.longer raw mid new (Err f) b cb i in
-      let same = raws_more v.rules u.rules u.seen w.seen so_far.rules h.longer raw raws d.pieces x d.raws_are refl in
+      let x : Piece = piece_of v.rules u.rules u.seen w.seen so_far.rules h.longer raw u.blamed w.blamed mid new (Err f) b cb i in
+      let same = raws_more v.rules u.rules u.seen w.seen so_far.rules h.longer raw u.blamed w.blamed raws d.pieces x d.raws_are refl in
       record {
         pieces = d.pieces ++ x ∷ [];
-        are = more_pieces v.rules u.rules u.seen w.seen so_far.rules h.longer raw mid new (Err f) d.pieces a ca b cb d.are i;
+        are = more_pieces v.rules u.rules u.seen w.seen so_far.rules h.longer raw u.blamed w.blamed mid new (Err f) d.pieces a ca b cb d.are i;
+        blamed = blamed_more v.blamed u.blamed w.blamed d.pieces x d.blamed i.blamed;
         ended = inl (
           subst (λ y. IfSome left (λ s. Begins s y)) same begins,
           subst (λ y. IsPrefixOut old new y) (sym (in_order_more (λ y. y.reply) d.pieces x)) (prefix_behind old mid new (replies_of d.pieces) i.reply d.out i.written),
@@ -143,7 +149,7 @@ served_closed v w k l left old new raws h c = record {
   copies = h.copies;
   own = h.own;
   copied = h.copied;
-  is = record { pieces = h.is.pieces; are = h.is.are; ended = (subst (λ y. IfSome left (λ s. Requests 0 s y closed)) h.is.raws_are c, h.is.out) };
+  is = record { pieces = h.is.pieces; are = h.is.are; blamed = h.is.blamed; ended = (subst (λ y. IfSome left (λ s. Requests 0 s y closed)) h.is.raws_are c, h.is.out) };
   failed = h.failed;
   rules = h.rules;
   longer = h.longer;
@@ -176,6 +182,7 @@ served_refused v w k l left old mid new raws why e h stops is = record {
   is = record {
     pieces = h.is.pieces;
     are = h.is.are;
+    blamed = h.is.blamed;
     ended = refused_so left old mid new (raws_of h.is.pieces) (replies_of h.is.pieces) why e (subst (λ y. IfSome left (λ s. Requests 0 s y (stopped why))) h.is.raws_are stops) h.is.out is;
   };
   failed = h.failed;
@@ -190,7 +197,7 @@ none_served v k old = record {
   copies = [];
   own = sym (append-nil v.own);
   copied = no_copies k.made;
-  is = record { pieces = []; are = record { are = tt; made_is = refl; copies_are = refl }; raws_are = refl; out = nothing_more old };
+  is = record { pieces = []; are = record { are = tt; made_is = refl; copies_are = refl }; blamed = refl; raws_are = refl; out = nothing_more old };
   failed = risen_none k.faults k.faults (omega arith);
   rules = refl;
   longer = prefix_self v.seen;

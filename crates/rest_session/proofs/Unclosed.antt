@@ -148,5 +148,5 @@ none_closes : (front events : List Event) → AreOpen (entries_from front events
 none_closes front [] h = refl
 none_closes front (e ∷ es) h = let first : is_close e ≡ false = h.0 in rw first (none_closes (front ++ e ∷ []) es h.1)
 
-pub served_open : (left old new : Option (List ℕ)) (r : Rules) (events : List Event) (e : LinkEnd) (made : List Entry) (copies : List ChunkCopy) → IsServed left old new r events e made copies → made ≡ entries_from [] events → list_any is_close events ≡ false
-served_open left old new r events e made copies h same = none_closes [] events (subst AreOpen (sym h.are.made_is ∙ same) (pieces_open r events h.pieces h.are.are))
+pub served_open : (left old new : Option (List ℕ)) (r : Rules) (events : List Event) (before now : ℕ) (e : LinkEnd) (made : List Entry) (copies : List ChunkCopy) → IsServed left old new r events before now e made copies → made ≡ entries_from [] events → list_any is_close events ≡ false
+served_open left old new r events before now e made copies h same = none_closes [] events (subst AreOpen (sym h.are.made_is ∙ same) (pieces_open r events h.pieces h.are.are))

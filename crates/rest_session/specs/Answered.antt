@@ -1,10 +1,11 @@
 -- The requests of a link, their own entries and their replies.
-use Rattle.std.specs.Prelude.{◌≡◌, ℕ, List, [], ◌∷◌, ◌++◌, ◌⊎◌, map, Option, IfSome, Result, Ok, Err}
+use Rattle.std.specs.Prelude.{◌≡◌, ℕ, List, [], ◌∷◌, ◌++◌, ◌⊎◌, map, Option, Some, None, IfSome, Result, Ok, Err}
 use Rattle.std.specs.List.{AllByRecursion}
-use Rattle.cc_base.specs.Outside.{IsPrefixOut, appended}
+use Rattle.cc_base.specs.Outside.{HasRisen, IsPrefixOut, appended}
 use Rattle.cluster_gate.specs.declared.copier.ChunkCopy.{ChunkCopy}
 use Rattle.core_terms.specs.declared.events.Event.{Event}
 use Rattle.core_terms.specs.declared.faults.StepFault.TheVariants as step
+use Rattle.core_terms.specs.declared.pumps.PumpEnd.TheVariants as pump
 use Rattle.mover_rounds.specs.Asked.{Entry, Known, Rules}
 use Rattle.mover_rounds.specs.Made.{Copies, HasMade}
 use Rattle.rest_parse.specs.Calls.{meaning}
@@ -58,6 +59,22 @@ pub record ArePieces (rules : Rules) (seen : List Event) (pieces : List Piece) (
   pub made_is : made ≡ in_order (λ p. p.made) pieces
   pub copies_are : copies ≡ in_order (λ p. p.copies) pieces
 
+-- the number of the admin's fault that is told, if one is
+abbrev pub fault_told : Told → Option ℕ
+fault_told (told.Step (step.AdminFault n)) = Some n
+fault_told (told.Pump (pump.AdminFault n)) = Some n
+fault_told _ = None
+
+-- the number of the admin's last fault, before and after what tells this one: it has risen to just that; or none is told, and none came
+abbrev pub IsBlamed : Option ℕ → ℕ → ℕ → Type 0
+IsBlamed None before now = now ≡ before
+IsBlamed (Some n) before now = (n ≡ now) × HasRisen before now
+
+-- so over all pieces: the numbers that they tell rise, one after another
+abbrev pub AreBlamed : ℕ → ℕ → List Piece → Type 0
+AreBlamed before now [] = now ≡ before
+AreBlamed before now (p ∷ ps) = (between : ℕ) × IsBlamed (fault_told p.told_is) before between × AreBlamed between now ps
+
 -- these are the first requests of the stream: the last of them closes it, or others may follow
 abbrev pub Begins : List ℕ → List RawRequest → Type 0
 Begins stream raws = Requests 0 stream raws closed ⊎ Requests 0 stream raws (stopped stop.Memory)
@@ -96,15 +113,16 @@ HasEnded left old new raws replies end.WriteFault =
     ⊎ ((why : Stop) × (reply : List ℕ) × IsStopped left raws why reply × IsPrefixOut old new (replies ++ reply))
 HasEnded left old new raws replies e = (why : Stop) × (end_of why ≡ e) × ((reply : List ℕ) × IsStopped left raws why reply × (new ≡ appended old (replies ++ reply)))
 
--- the pieces of a link that ended so
-pub record IsServed (left old new : Option (List ℕ)) (rules : Rules) (seen : List Event) (e : LinkEnd) (made : List Entry) (copies : List ChunkCopy) : Type 0 where
+-- the pieces of a link that ended so, with the number of the admin's last fault before and after them
+pub record IsServed (left old new : Option (List ℕ)) (rules : Rules) (seen : List Event) (before now : ℕ) (e : LinkEnd) (made : List Entry) (copies : List ChunkCopy) : Type 0 where
   pub pieces : List Piece
   pub are : ArePieces rules seen pieces made copies
+  pub blamed : AreBlamed before now pieces
   pub ended : HasEnded left old new (raws_of pieces) (replies_of pieces) e
 
 -- the requests of a link were answered, each by its own entries, up to its end
 abbrev pub HasServed : Known → Known → Copies → Copies → Option (List ℕ) → Option (List ℕ) → Option (List ℕ) → LinkEnd → Type 0
-HasServed v w k l left old new e = HasMade (IsServed left old new v.rules w.seen e) v w k l
+HasServed v w k l left old new e = HasMade (IsServed left old new v.rules w.seen v.blamed w.blamed e) v w k l
 
 -- a reply was written, whole or, before an error, a prefix of it
 abbrev pub IsWritten : {E : Type 0} → Option (List ℕ) → Option (List ℕ) → Result (Unit {0}) E → List ℕ → Type 0
@@ -112,25 +130,27 @@ IsWritten old new (Ok done) reply = new ≡ appended old reply
 IsWritten old new (Err fault) reply = IsPrefixOut old new reply
 
 -- one request was answered
-pub record IsAnswered {E : Type 0} (raw : RawRequest) (old new : Option (List ℕ)) (result : Result (Unit {0}) E) (rules : Rules) (seen : List Event) (made : List Entry) (copies : List ChunkCopy) : Type 0 where
+pub record IsAnswered {E : Type 0} (raw : RawRequest) (old new : Option (List ℕ)) (result : Result (Unit {0}) E) (rules : Rules) (seen : List Event) (before now : ℕ) (made : List Entry) (copies : List ChunkCopy) : Type 0 where
   pub told_is : Told
   pub reply : List ℕ
+  pub blamed : IsBlamed (fault_told told_is) before now
   pub called : IsCalled rules seen (meaning raw) told_is made copies
   pub reply_is : IsReply told_is reply
   pub written : IsWritten old new result reply
 
 abbrev pub HasAnswered : {E : Type 0} → Known → Known → Copies → Copies → RawRequest → Option (List ℕ) → Option (List ℕ) → Result (Unit {0}) E → Type 0
-HasAnswered v w k l raw old new result = HasMade (IsAnswered raw old new result v.rules w.seen) v w k l
+HasAnswered v w k l raw old new result = HasMade (IsAnswered raw old new result v.rules w.seen v.blamed w.blamed) v w k l
 
 -- pieces so far, of the first requests, whose replies are out
-pub record AreSoFar (old new : Option (List ℕ)) (raws : List RawRequest) (rules : Rules) (seen : List Event) (made : List Entry) (copies : List ChunkCopy) : Type 0 where
+pub record AreSoFar (old new : Option (List ℕ)) (raws : List RawRequest) (rules : Rules) (seen : List Event) (before now : ℕ) (made : List Entry) (copies : List ChunkCopy) : Type 0 where
   pub pieces : List Piece
   pub are : ArePieces rules seen pieces made copies
+  pub blamed : AreBlamed before now pieces
   pub raws_are : raws ≡ raws_of pieces
   pub out : new ≡ appended old (replies_of pieces)
 
 abbrev pub HasSoFar : Known → Known → Copies → Copies → Option (List ℕ) → Option (List ℕ) → List RawRequest → Type 0
-HasSoFar v w k l old new raws = HasMade (AreSoFar old new raws v.rules w.seen) v w k l
+HasSoFar v w k l old new raws = HasMade (AreSoFar old new raws v.rules w.seen v.blamed w.blamed) v w k l
 
 -- a reply to what is told was written
 abbrev pub IsReplied : {E : Type 0} → Told → Option (List ℕ) → Option (List ℕ) → Result (Unit {0}) E → Type 0

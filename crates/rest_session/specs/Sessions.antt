@@ -1,5 +1,5 @@
 -- A session over a book of its own: the requests of a link, then Close, then rounds until nothing is unfinished.
-use Rattle.std.specs.Prelude.{◌≡◌, ℕ, List, [], ◌∷◌, ◌++◌, Option}
+use Rattle.std.specs.Prelude.{◌≡◌, ℕ, List, [], ◌∷◌, ◌++◌, Option, Some, None}
 use Rattle.cluster_gate.specs.declared.copier.ChunkCopy.{ChunkCopy}
 use Rattle.control_core.specs.Books.{BookView}
 use Rattle.core_terms.specs.declared.events.Event.{Event}
@@ -7,8 +7,15 @@ use Rattle.core_terms.specs.declared.events.Event.TheVariants as event
 use Rattle.mover_rounds.specs.Asked.{core_rules, entries_from}
 use Rattle.mover_rounds.specs.Drained.{IsDrained}
 use Rattle.mover_rounds.specs.Made.{Copies, HasRisenBy, failures_of, with_copies}
-use Rattle.rest_session.specs.Answered.{IsServed}
+use Rattle.mover_rounds.specs.declared.drains.DrainEnd.{DrainEnd}
+use Rattle.mover_rounds.specs.declared.drains.DrainEnd.TheVariants as drain
+use Rattle.rest_session.specs.Answered.{IsBlamed, IsServed}
 use Rattle.rest_session.specs.declared.whole.SessionEnd.{SessionEnd}
+
+-- the number of the admin's fault that ended a drain, if one did
+abbrev pub drain_fault : DrainEnd → Option ℕ
+drain_fault (drain.AdminFault n) = Some n
+drain_fault _ = None
 
 -- the journal of a book that was just opened is now that of a session: the entries that answered the requests of the link, one Close,
 -- and the rounds of a drain
@@ -20,5 +27,7 @@ pub record IsSession {A : Type 0} (b c : BookView A) (k l : Copies) (left old ne
   pub drained_copies : List ChunkCopy
   pub copied : l.made ≡ with_copies k.made (served_copies ++ drained_copies)
   pub failed : HasRisenBy (failures_of (entries_from [] c.journal)) k.faults l.faults
-  pub answered : IsServed left old new (core_rules b.file) served end.link (entries_from [] served) served_copies
+  pub faults : ℕ
+  pub answered : IsServed left old new (core_rules b.file) served b.failures faults end.link (entries_from [] served) served_copies
+  pub drain_blamed : IsBlamed (drain_fault end.drain) faults c.failures
   pub rounds : IsDrained (core_rules b.file) c.journal end.drain (entries_from (served ++ event.Close ∷ []) drained) drained_copies

@@ -4,7 +4,7 @@ ghost use Rattle.cc_base.specs.Outside.{HasCause};
 ghost use Rattle.core_terms.specs.History.{is_outward};
 ghost use Rattle.mover_rounds.specs.Made.{copier_of};
 ghost use Rattle.rest_parse.specs.Calls.{IsInRange, meaning};
-ghost use Rattle.rest_session.specs.Answered.{HasAnswered, IsReplied};
+ghost use Rattle.rest_session.specs.Answered.{HasAnswered, IsBlamed, IsReplied, fault_told};
 ghost use Rattle.rest_session.specs.Calls.{HasCalled, HasDone, IsAskedOnce, asked_by};
 
 use crate::calls::{Asked, asked_by};
@@ -21,6 +21,7 @@ fn ask_once<X: Asker>(asker: &mut X, event: Event) -> Told
     requires { is_outward event ≡ false }
     ensures since { X.since asker.old asker.new }
     ensures asked { IsAskedOnce (X.known asker.old) (X.known asker.new) event result }
+    ensures blamed { IsBlamed (fault_told result) (X.known asker.old).blamed (X.known asker.new).blamed }
 {
     match asker.ask(event) {
         Ok(reply) => Told::Core(reply),
@@ -33,6 +34,7 @@ fn do_call<X: Asker, K: Copier>(alloc: Global, asker: &mut X, copier: &mut K, ca
     requires { IsInRange call }
     ensures since { X.since asker.old asker.new }
     ensures done { HasDone (X.known asker.old) (X.known asker.new) (copier_of K.copies K.faults copier.old) (copier_of K.copies K.faults copier.new) (asked_by call) result }
+    ensures blamed { IsBlamed (fault_told result) (X.known asker.old).blamed (X.known asker.new).blamed }
 {
     match asked_by(call) {
         Asked::Once(event) => ask_once(asker, event),
@@ -50,6 +52,7 @@ fn told_by<X: Asker, K: Copier>(
 ) -> Told
     ensures since { X.since asker.old asker.new }
     ensures called { HasCalled (X.known asker.old) (X.known asker.new) (copier_of K.copies K.faults copier.old) (copier_of K.copies K.faults copier.new) (meaning raw.now) result }
+    ensures blamed { IsBlamed (fault_told result) (X.known asker.old).blamed (X.known asker.new).blamed }
 {
     match routes.request_of(alloc, raw) {
         Ok(call) => do_call(alloc, asker, copier, call),

@@ -34,6 +34,7 @@ fn close<A: Admin>(book: &mut Book<A>)
     requires { list_any is_close book.old.journal ≡ false }
     ensures since { IsSince A.faults book.old book.new }
     ensures journal { book.new.journal ≡ book.old.journal ++ Event.Close ∷ [] }
+    ensures blameless { book.new.failures ≡ book.old.failures }
 {
     every_history();
     match book.step(Event::Close) {

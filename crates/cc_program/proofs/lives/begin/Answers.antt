@@ -5,7 +5,7 @@ use Rattle.cluster_json.specs.Views.{file_seen}
 use Rattle.control_core.specs.Books.{BookView}
 use Rattle.live_service.specs.Views.{ServedView, link_of, net_of, served_of}
 use Rattle.mover_rounds.specs.Made.{copier_of}
-use Rattle.cc_program.specs.Lives.{CrewAsked, IsOver, Outside, crew_told, outside_of}
+use Rattle.cc_program.specs.Lives.{CrewAsked, IsOver, Outside, crew_told, gate, outside_of}
 use Rattle.cc_program.proofs.Inserted.{left_begun}
 use Rattle.cc_program.proofs.lives.begin.Goals as goal
 
@@ -17,6 +17,7 @@ returns-in-Ok-begin g c =
     let new : Outside = sees left.outside.copiers.items left.outside.console left.outside.listener in
     let links : List ServedView = map (served_of (link_of g.N.Conn.Source.left g.N.Conn.Sink.written g.N.Conn.Source.faults g.N.Conn.Sink.faults)) left.links.items in
     let crew : CrewAsked = crew_told c.args.crew in
-    let over = subst (λ (m : Meaning). IfSome left.book (λ b. IsOver m crew old new links b c.live.result.0))
+    let told = gate g.A.Admin.faults g.A.Admin.told in
+    let over = subst (λ (m : Meaning). IfSome left.book (λ b. IsOver told m crew old new links b c.live.result.0))
     (ap (λ (b : BookView g.row.A.Denot). b.file) c.in-Ok-begin.ensures.opened) c.live.ensures.over in
-    record { left = left_begun g.A.Admin.faults (file_seen c.args.file) crew old new links c.args.admin left.admin left.book c.live.result.0 c.live.ensures.begun over }
+    record { left = left_begun told (file_seen c.args.file) crew old new links c.args.admin left.admin left.book c.live.result.0 c.live.ensures.begun over }

@@ -39,11 +39,12 @@ returns-clause-over g c =
               after = view l.front.copier;
               old_are = subst (λ (n : ℕ). map view all ≡ insert (map view rest) n (view own)) at_is (taken_out view all rest at own (search rules) c.remove-copier.ensures.value c.remove-copier.ensures.items);
               new_are = subst (λ (n : ℕ). map view c.insert.new.self.items ≡ insert (map view l.front.service.copiers.items) n (view l.front.copier)) at_is (put_in view l.front.service.copiers.items c.insert.new.self.items at l.front.copier put_here);
-              live = subst (λ (asked : Option ℕ). IsLive asked c.args.book l.book (map view rest) (map view l.front.service.copiers.items) crew.movers crew.planners
+              live = subst (λ (asked : Option ℕ). IsLive g.A.Admin.faults asked c.args.book l.book (map view rest) (map view l.front.service.copiers.items) crew.movers crew.planners
                   (with_copier (view own) (sees all c.args.outside.console c.args.outside.listener))
                   (with_copier (view l.front.copier) (sees c.insert.new.self.items l.front.console l.front.service.listener))
                   (map served l.front.service.served.items) l.end l.drain) (links_told c.args.crew.serving) w.in-Ok.ensures.live;
               legal = w.in-Ok.ensures.legal;
+              lists = w.in-Ok.ensures.lists;
               drained = w.in-Ok.ensures.drained;
               late = w.in-Ok.ensures.late;
             },

@@ -1,5 +1,6 @@
 use Rattle.std.proofs.Common.{arith}
 use Rattle.std.specs.Prelude.{Some}
+use Rattle.cc_program.proofs.Blameless.{no_fault}
 use Rattle.cc_program.proofs.sessions.serve.Goals as goal
 
 pub returns-clause-did : goal.returns-clause-did
@@ -17,6 +18,7 @@ returns-clause-did g c =
         legal = c.journal-legal.ensures.legal;
         drained = s.ensures.drained;
         no_failure = omega (arith, session.failed);
+        no_admin_fault = no_fault c.args.book.now.failures session.faults s.new.book.failures s.result.drain session.answered.pieces (omega (arith, c.failures-few.ensures.value, c.failures-few.ensures.few)) session.drain_blamed session.answered.blamed;
         read_fault = s.ensures.read_fault;
         write_fault = s.ensures.write_fault;
       },

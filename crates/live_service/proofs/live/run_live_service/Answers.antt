@@ -4,7 +4,7 @@ use Rattle.mover_rounds.specs.Made.{copier_of}
 use Rattle.live_service.specs.Asked.{links_asked}
 use Rattle.live_service.specs.Fronts.{HasAnswered}
 use Rattle.live_service.specs.Views.{FrontView, front_of, link_of, net_of, served_of}
-use Rattle.live_service.proofs.Sharing.{is_closed, is_late}
+use Rattle.live_service.proofs.Sharing.{is_closed, is_late, is_risen}
 use Rattle.live_service.proofs.Unclosed.{closes_once}
 use Rattle.live_service.proofs.live.run_live_service.Goals as goal
 
@@ -42,5 +42,10 @@ returns-clause-live g c =
       shared = closes_once (links_asked c.args.serving) f between links r.end c.args.book r.book (map view before.service.copiers.items) (map view r.front.service.copiers.items) c.args.movers c.args.planners r.ensures.shared;
       settled = c.settle.new.self;
       settled_is = c.settle.ensures;
-      drained = c.finish-drain.ensures.rounds;
+      behind = record {
+        since = c.finish-drain.ensures.since;
+        drained = c.finish-drain.ensures.rounds;
+        cause = c.finish-drain.ensures.cause;
+        risen = λ number e. let cause = rw e at c.finish-drain.ensures.cause in is_risen g.A.Admin.faults c.settle.new.self c.finish-drain.new.book c.finish-drain.ensures.since cause.1 (rw c.failures-few.ensures.value at c.failures-few.ensures.few);
+      };
     }

@@ -36,3 +36,8 @@ pub returns-in-Err-AdminFault-clause-cause : goal.returns-in-Err-AdminFault-clau
 returns-in-Err-AdminFault-clause-cause g c =
     let inv = c.loop-number.invariant in
     rw c.in-Err-AdminFault.field-0-is (cause_earlier (known_by_owner c.args.book.now) (known_by_owner c.loop-number.book) (known_by_owner c.work.new.book) (AdminFault c.in-Err-AdminFault.number) inv.did.rules inv.did.longer inv.kept (rw c.in-Err-AdminFault.field-0-is at c.in-Err-AdminFault.ensures.cause))
+
+pub returns-in-Err-Memory-clause-cause : goal.returns-in-Err-Memory-clause-cause
+returns-in-Err-Memory-clause-cause g c =
+    let inv = c.loop-number.invariant in
+    cause_earlier (known_by_owner c.args.book.now) (known_by_owner c.loop-number.book) (known_by_owner c.work.new.book) Memory inv.did.rules inv.did.longer inv.kept (rw c.in-Err-Memory.field-0-is at c.in-Err-Memory.ensures.cause)

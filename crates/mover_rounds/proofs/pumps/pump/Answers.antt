@@ -1,5 +1,5 @@
 use Rattle.std.proofs.Common.{Ok, ◌∙◌, arith}
-use Rattle.core_terms.specs.declared.faults.StepFault.TheVariants.{AdminFault}
+use Rattle.core_terms.specs.declared.faults.StepFault.TheVariants.{AdminFault, Memory}
 use Rattle.mover_rounds.specs.Made.{copier_of}
 use Rattle.mover_rounds.specs.declared.round.Found.TheVariants.{Planned, Worked}
 use Rattle.mover_rounds.proofs.Ending.{cause_earlier}
@@ -52,3 +52,8 @@ returns-in-Err-AdminFault-clause-pumped g c =
 pub returns-in-Err-Memory-clause-pumped : goal.returns-in-Err-Memory-clause-pumped
 returns-in-Err-Memory-clause-pumped g c =
     pumped_memory _ (g.X.Asker.known c.loop-done.asker) _ _ (copier_of g.K.Copier.copies g.K.Copier.faults c.loop-done.copier) _ c.loop-done.done c.args.steps c.in-Err-Memory.field-0 c.loop-done-test.true c.loop-done.invariant.did c.in-Err-Memory.ensures.round
+
+pub returns-in-Err-Memory-clause-cause : goal.returns-in-Err-Memory-clause-cause
+returns-in-Err-Memory-clause-cause g c =
+    let h = c.loop-done.invariant in
+    cause_earlier (g.X.Asker.known c.args.asker.now) (g.X.Asker.known c.loop-done.asker) (g.X.Asker.known c.one_round.new.asker) Memory h.did.rules h.did.longer h.kept (rw c.in-Err-Memory.field-0-is at c.in-Err-Memory.ensures.cause)

@@ -19,7 +19,7 @@ returns-clause-session g c =
     let s = c.serve-ended in
     let d = c.finish-drain in
     session c.args.book.now s.new.asker (copier_of g.K.Copier.copies g.K.Copier.faults c.args.copier.now) (copier_of g.K.Copier.copies g.K.Copier.faults s.new.copier) (g.L.Source.left c.args.link.now) (g.L.Sink.written c.args.link.now) (g.L.Sink.written s.new.link) s.result c.requires s.ensures.served
-    c.close.new.book d.new.book (copier_of g.K.Copier.copies g.K.Copier.faults d.new.copier) d.result (c.close.ensures.since.file ∙ s.ensures.since.file) c.close.ensures.journal d.ensures.rounds
+    c.close.new.book d.new.book (copier_of g.K.Copier.copies g.K.Copier.faults d.new.copier) d.result (c.close.ensures.since.file ∙ s.ensures.since.file) c.close.ensures.journal c.close.ensures.blameless d.ensures.cause d.ensures.rounds
 
 pub returns-clause-fault : goal.returns-clause-fault
 returns-clause-fault g c = λ number e. let cause = rw e at c.finish-drain.ensures.cause in omega (arith, cause.1)
