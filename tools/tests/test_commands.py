@@ -97,6 +97,13 @@ class Commands(unittest.TestCase):
             ran = subprocess.run([PROGRAM, *words.partition(" > ")[0].split()], input=given, cwd=ROOT, capture_output=True, timeout=60)
             self.assertEqual((ran.returncode, ran.stderr), (0, b""), example)
 
+    @unittest.skipUnless(PROGRAM.exists(), "the program isn't built")
+    def test_replies(self):
+        """The session of the examples has the replies that stand beside it."""
+        given, wanted = ((ROOT / "examples" / name).read_bytes() for name in ("requests.http", "replies.http"))
+        ran = subprocess.run([PROGRAM, "session", "examples/two-brokers.json"], input=given, cwd=ROOT, capture_output=True, timeout=60)
+        self.assertEqual((ran.returncode, ran.stdout, ran.stderr), (0, wanted, b""))
+
 
 if __name__ == "__main__":
     unittest.main()
