@@ -1,4 +1,4 @@
-"""The documents' links lead somewhere, the goals' page has every goal, and README's examples print what it shows."""
+"""The documents' links lead somewhere, their tables have what the sources have, and README's examples print what it shows."""
 import pathlib
 import re
 import subprocess
@@ -11,7 +11,7 @@ from goals import GOALS
 
 # Words that stand in texts of the program alone, and so in code.
 FORBIDDEN = ("can't be had", "a front of", "want of memory", "exactly where", "that can be had")
-PAGES = [ROOT / "README.md", *ROOT.glob("docs/*.md")]
+PAGES = [ROOT / "README.md", ROOT / "crates/README.md", *ROOT.glob("docs/*.md")]
 HEADINGS = [
     "What it needs",
     "Run it",
@@ -56,7 +56,7 @@ class Documents(unittest.TestCase):
         self.assertEqual(len(re.findall(r"^\d+\. ", text, re.M)), 10)
 
     def test_crates(self):
-        """Each crate has its row in the list of what is proved, and those that the program isn't made of stand apart."""
+        """Each crate has its line and its row in the list of what is proved, where those that the program isn't made of stand apart."""
         below = {}
         for line in (ROOT / "crates.txt").read_text().splitlines():
             head, colon, names = line.partition("#")[0].partition(":")
@@ -73,6 +73,28 @@ class Documents(unittest.TestCase):
         for name in below:
             self.assertIn(name, text)
         self.assertEqual(set(re.findall(r"^\| (\w+) \| ", apart, re.M)) - {"crate"}, set(below) - used)
+        listed = re.findall(r"^- `(\w+)`: .+$", (ROOT / "crates/README.md").read_text(), re.M)
+        self.assertEqual(listed, list(below), "crates/README.md has one line a crate, in the order of crates.txt")
+
+    def test_definitions(self):
+        """Each row of a table of definitions is one definition, and the file that it names has it."""
+        text = (ROOT / "docs/DEFINITIONS.md").read_text()
+        crates, is_table, found = [], False, set()
+        for line in text.splitlines():
+            crates = [] if line.startswith("#") else crates + re.findall(r"crates/(\w+)/specs/", line)
+            is_table = line.startswith("| name | file |") or is_table and line.startswith("|")
+            if not is_table or not line.startswith("| `"):
+                continue
+            row = re.fullmatch(r"\| `([^`]+)` \| (?:`(\w+)/specs/(\w+)`|(\w+)) \| .+ \|", line)
+            self.assertTrue(row, line)
+            places = [(row[2], row[3])] if row[2] else [(crate, row[4]) for crate in crates]
+            files = [ROOT / f"crates/{crate}/specs/{name}.antt" for crate, name in places]
+            specs = "".join(path.read_text() for path in files if path.exists())
+            known = re.search(rf"^(?:\w+ )?pub (?:record |data )?{re.escape(row[1])}[ :({{\n]", specs, re.M)
+            self.assertTrue(known, line)
+            self.assertNotIn((row[1], row[2] or crates[0], row[3] or row[4]), found, line)
+            found.add((row[1], row[2] or crates[0], row[3] or row[4]))
+        self.assertGreater(len(found), 600)
 
     def test_goals(self):
         rows = re.findall(r"^\| (\w+Goal) \| (.*)$", (ROOT / "docs/GOALS.md").read_text(), re.M)

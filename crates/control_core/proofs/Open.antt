@@ -17,7 +17,7 @@ use Rattle.user_tasks.specs.declared.table.Status.TheVariants as status
 use Rattle.core_terms.specs.Asked.{is_dry}
 use Rattle.core_terms.specs.State.{Desk, no_job, job_at}
 use Rattle.core_terms.specs.Jobs.{is_active, is_in_execution, no_user_task, plans_execution, user_task_at}
-use Rattle.core_terms.specs.Plans.{holder_of, waits}
+use Rattle.core_terms.specs.Plans.{has_ticket, holder_of, is_ticket, waits}
 use Rattle.core_terms.specs.Sound.{AreTasks, AreTickets}
 use Rattle.core_terms.specs.declared.jobs.Job.{Job}
 use Rattle.core_laws.proofs.Jobs.{absent, holder_active}
@@ -129,6 +129,22 @@ found_waiting tasks jobs one =
   where
     long : length (zip tasks jobs) ≡ length tasks
     long = length-zip_same tasks jobs (sym one)
+
+-- the job of a ticket, which only an active user task has
+pub found_holder : (tasks : List UserTask) (jobs : List Job) (n : ℕ) → length jobs ≡ length tasks → ((i m : ℕ) → (job_at jobs i).ticket ≡ Some m → is_active (user_task_at tasks i).status ≡ true)
+    → find (λ i. has_ticket n (job_at jobs i)) (open_places tasks) ≡ holder_of n jobs
+found_holder tasks jobs n one active =
+    find_kept (λ i. has_ticket n (job_at jobs i)) (λ i. is_open (user_task_at tasks i).status) (λ i q. held i (job_at jobs i).ticket refl q) (range_with_len 0 (length tasks))
+    ∙ ap (λ (k : ℕ). find (λ i. has_ticket n (job_at jobs i)) (range_with_len 0 k)) (sym one)
+    ∙ sym (place_is (has_ticket n) jobs no_job)
+  where
+    held : (i : ℕ) (o : Option ℕ) → (job_at jobs i).ticket ≡ o → is_ticket n o ≡ true → is_open (user_task_at tasks i).status ≡ true
+    held i None q h = absurd (false≢true h)
+    held i (Some m) q h = active_open (user_task_at tasks i).status (active i m q)
+
+pub holder_within : (n : ℕ) (jobs : List Job) (o : Option ℕ) → o ≡ holder_of n jobs → IfSome o (λ i. i < length jobs)
+holder_within n jobs None e = tt
+holder_within n jobs (Some i) e = (position-Some (has_ticket n) jobs i no_job (sym e)).0
 
 -- how many are open
 count_places : (p : UserTask → Bool) (f : ℕ → Bool) (a : ℕ) (xs : List UserTask) → ((k : ℕ) → k < length xs → f (a + k) ≡ p (get_or xs k no_user_task)) → count_by f (range_with_len a (length xs)) ≡ count_by p xs

@@ -2,6 +2,7 @@
 ghost use Rattle.std.specs.Prelude.{◌≡◌, ◌++◌, ◌∷◌, [], ◌+◌, ◌<◌, ◌≤◌, ◌^◌, true, IsOk, OnErr, OnOk, length, vec_capacity, if◌then◌else◌};
 ghost use Rattle.cc_base.specs.Outside.{HasRisen};
 ghost use Rattle.core_terms.specs.History.{IsLegal, is_outward, is_sure, kept_for};
+ghost use Rattle.core_terms.specs.Sound.{AreTickets};
 ghost use Rattle.core_terms.specs.Writes.{told_after};
 ghost use Rattle.exec_terms.specs.Machine.{any_unfinished};
 
@@ -46,7 +47,8 @@ pub fn is_legal(event: &Event)
 impl Machine {
     /// Makes room in the journal for the entry of an event and, where it is not sure, for one that it may call for.
     pub fn make_room(&self, journal: &mut Vec<Event>, event: &Event) -> Result<(), Memory>
-        requires { length journal.old.items + kept_for self.now.desk ≤ vec_capacity journal.old }
+        requires tickets { AreTickets self.now.desk }
+        requires room { length journal.old.items + kept_for self.now.desk ≤ vec_capacity journal.old }
         ensures items { journal.new.items ≡ journal.old.items }
         ensures room { OnOk result (length journal.old.items + (if is_sure self.now.desk event.now then kept_for self.now.desk else kept_for self.now.desk + 2) ≤ vec_capacity journal.new) }
         ensures kept { length journal.old.items + kept_for self.now.desk ≤ vec_capacity journal.new }

@@ -1,5 +1,4 @@
 // The book as one that threads share.
-ghost use Rattle.std.specs.Prelude.{◌≡◌};
 
 use crate::book::Book;
 use cluster_gate::Admin;

@@ -1,6 +1,6 @@
 // The work of the movers.
 ghost use Rattle.std.specs.Prelude.{◌≡◌, ◌<◌, ◌^◌};
-ghost use Rattle.core_terms.specs.Works.{reason_of, reply_take, taken_by, lease_told, is_copy, is_receipt_of, is_receipt, reply_copied, copied, reply_copy_failed, copy_failed, reply_commit, committed_by, reply_cancel, cancelled_by, reply_give_back, given_back};
+ghost use Rattle.core_terms.specs.Works.{reason_of, reply_take, taken_by, lease_told, is_copy, is_receipt_of, reply_copied, copied, reply_copy_failed, copy_failed, reply_commit, committed_by, reply_cancel, cancelled_by, reply_give_back, given_back};
 
 use crate::desk::Desk;
 use crate::places::any_planning;

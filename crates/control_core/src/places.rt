@@ -4,7 +4,7 @@ ghost use Rattle.std.specs.List.{position, list_any, zip};
 ghost use Rattle.user_tasks.specs.Tasks.{is_open};
 ghost use Rattle.core_terms.specs.State.{job_at};
 ghost use Rattle.core_terms.specs.Jobs.{is_active, is_in_execution, plans_execution, user_task_at};
-ghost use Rattle.core_terms.specs.Plans.{has_ticket, holder_of, waits};
+ghost use Rattle.core_terms.specs.Plans.{has_ticket, waits};
 ghost use Rattle.control_core.specs.Desks.{open_places};
 
 use core_cases::is_dry;
@@ -134,9 +134,22 @@ fn has_ticket(job: &Job, ticket: u64) -> bool
     }
 }
 
-/// The job of a ticket.
-pub fn holder_of(jobs: &[Job], ticket: u64) -> Option<usize>
-    ensures { result ≡ holder_of ticket jobs.now }
+// Whether a planner has the job at a place under it.
+fn has_ticket_at(jobs: &[Job], place: usize, ticket: u64) -> bool
+    ensures { result ≡ has_ticket ticket (job_at jobs.now place) }
 {
-    jobs.iter().position(|j| has_ticket(j, ticket))
+    match jobs.get(place) {
+        Some(job) => has_ticket(job, ticket),
+        None => false,
+    }
+}
+
+/// The first of these places whose job a planner has under this ticket.
+pub fn holder_among(jobs: &[Job], places: &[usize], ticket: u64) -> Option<usize>
+    ensures { result ≡ find (λ i. has_ticket ticket (job_at jobs.now i)) places.now }
+{
+    places
+        .iter()
+        .copied()
+        .find(|place| has_ticket_at(jobs, *place, ticket))
 }

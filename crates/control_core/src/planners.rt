@@ -1,13 +1,14 @@
 // Jobs and their tickets.
-ghost use Rattle.std.specs.Prelude.{◌≡◌, ◌+◌, ◌<◌, ◌^◌, Some, false, true, IfOk, IfSome, OnOk, OnErr, length};
-ghost use Rattle.plan_terms.specs.Belongs.{Belongs, IsAssignment};
+ghost use Rattle.std.specs.Prelude.{◌≡◌, ◌+◌, ◌<◌, ◌^◌, Some, true, IfOk, IfSome, OnOk, OnErr, length};
+ghost use Rattle.plan_terms.specs.Belongs.{Belongs};
 ghost use Rattle.exec_terms.specs.Settled.{settled_lists};
 ghost use Rattle.core_terms.specs.Jobs.{is_done_at_once, user_task_at, with_plan, MayLaunch};
+ghost use Rattle.core_terms.specs.Sound.{AreTickets};
 ghost use Rattle.user_tasks.specs.Tasks.{is_open};
 ghost use Rattle.core_terms.specs.Plans.{first_waiting, goal_failed, holder_of, is_failure_for, is_plan_for, planned_back, problem_at, reply_plan_back, ticketed, unticketed, with_failure};
 
 use crate::desk::Desk;
-use crate::places::{first_waiting, holder_of};
+use crate::places::{first_waiting, holder_among};
 use core_cases::{case_of, failure_is_for, is_dry, plan_is_for};
 use core_terms::{Broken, Problem, Reply};
 use goal_set::{Failure, Plan};
@@ -45,12 +46,13 @@ impl Desk {
         first_waiting(self.tasks.tasks(), &self.jobs, &self.open_tasks)
     }
 
-    /// The place of the job of a ticket.
+    /// The place of the job of a ticket, whose user task is open.
     pub fn holder_of(&self, ticket: u64) -> Option<usize>
+        requires { AreTickets self.now }
         ensures place { result ≡ holder_of ticket self.now.jobs }
         ensures within { IfSome result (λ i. i < length self.now.jobs) }
     {
-        holder_of(&self.jobs, ticket)
+        holder_among(&self.jobs, &self.open_tasks, ticket)
     }
 
     /// What a planner is given for the job at a place, in the present cluster.
@@ -89,6 +91,7 @@ impl Desk {
 
     /// A ticket is given back.
     pub fn plan_back(&mut self, ticket: u64) -> Reply
+        requires { AreTickets self.old }
         ensures state { self.new ≡ planned_back self.old (holder_of ticket self.old.jobs) }
         ensures reply { result ≡ reply_plan_back self.old (holder_of ticket self.old.jobs) }
     {

@@ -4,21 +4,13 @@ ghost use Rattle.std.specs.List.{list_any};
 ghost use Rattle.exec_terms.specs.Words.{holds, holds_for};
 ghost use Rattle.core_terms.specs.History.{is_sure, kept_for};
 ghost use Rattle.core_terms.specs.Plans.{has_ticket};
+ghost use Rattle.core_terms.specs.Sound.{AreTickets};
 
 use crate::desk::Desk;
 use crate::movers::is_receipt_of;
-use crate::places::holder_of;
-use core_terms::{Event, Job};
+use core_terms::Event;
 use exec_terms::{LeaseFault, WorkKind};
 use executor_core::Exec;
-
-// Whether some job has the ticket.
-#[tactic(auto, using(crate::proofs::Held::ticket_there))]
-fn is_ticket_out(jobs: &[Job], ticket: u64) -> bool
-    ensures { result ≡ list_any (has_ticket ticket) jobs.now }
-{
-    holder_of(jobs, ticket).is_some()
-}
 
 // Whether a task holds the lease for a kind of work.
 #[tactic(auto, using(crate::proofs::Held::held_stale, crate::proofs::Held::held_ok, crate::proofs::Held::held_asked))]
@@ -40,6 +32,15 @@ fn is_held(exec: &Exec, lease: u64) -> bool
 }
 
 impl Desk {
+    // Whether some job has the ticket.
+    #[tactic(auto, using(crate::proofs::Held::ticket_there))]
+    fn is_ticket_out(&self, ticket: u64) -> bool
+        requires { AreTickets self.now }
+        ensures { result ≡ list_any (has_ticket ticket) self.now.jobs }
+    {
+        self.holder_of(ticket).is_some()
+    }
+
     /// No fewer entries than those for which the journal keeps room: one for each task, one for each job, and one for Close.
     #[tactic(auto, using(crate::proofs::Kept::kept_few))]
     pub fn most_kept(&self) -> usize
@@ -52,10 +53,11 @@ impl Desk {
 
     /// Whether an event ends a lease or a ticket which is out, or is the first Close.
     pub fn is_sure(&self, event: &Event) -> bool
+        requires { AreTickets self.now }
         ensures { result ≡ is_sure self.now event.now }
     {
         match event {
-            Event::PlanBack(ticket) => is_ticket_out(&self.jobs, *ticket),
+            Event::PlanBack(ticket) => self.is_ticket_out(*ticket),
             Event::Copied(receipt) => is_receipt_of(receipt, self.exec.held(receipt.lease())),
             Event::CopyFailed(lease) => is_held_for(&self.exec, *lease, WorkKind::Copy),
             Event::Commit(lease) => is_held_for(&self.exec, *lease, WorkKind::Commit),

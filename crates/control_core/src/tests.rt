@@ -1,15 +1,13 @@
-// Runs of a book, written as steps and what each is answered.
-ghost use Rattle.plan_terms.specs.Belongs.{Belongs};
-
+// Runs of a book, written as steps and what each is answered. Where a call fails the tests panic, in place of `?`, so that a book is
+// dropped at one place alone: the proof of each drop is long.
 use super::*;
 use cluster_gate::{FailingAdmin, MemoryCluster, MemoryCopier, copy_chunk};
 use cluster_json::read_cluster;
 use core_terms::{Event, Problem, Reply};
 use exec_terms::{Given, Work};
 use goal_optimizer::optimise;
-use std::alloc::Global;
+use std::alloc::{AllocError, Global};
 use std::process::Abort;
-use std::test::Fail;
 use user_tasks::{Ask, ListOf, Op};
 
 const TWO: &str =
@@ -48,133 +46,140 @@ struct Run {
 }
 
 // A book whose admin fails at the calls with these numbers, the first being 1.
-fn run_of(alloc: Global, text: &str, failing: Vec<u64>) -> Result<Run, Fail> {
-    let file = read_cluster(alloc, text.as_bytes())?;
+fn run_of(rt: &impl Abort, alloc: Global, text: &str, failing: &[u64]) -> Run {
+    let Ok(file) = read_cluster(alloc, text.as_bytes()) else {
+        panic!(rt; "no cluster");
+    };
+    let failing = failing.to_vec(alloc).expect(rt, "memory");
     let admin = FailingAdmin::new(MemoryCluster::new(alloc), failing);
     let Ok(book) = Book::begin(alloc, file, admin) else {
-        return Err("no book".into());
+        panic!(rt; "no book");
     };
-    Ok(Run {
+    Run {
         book,
         copier: MemoryCopier::new(alloc),
         job: None,
         work: None,
-    })
+    }
 }
 
-fn ask(alloc: Global, op: Op, brokers: &[u32], dryrun: bool) -> Result<Ask, Fail> {
-    Ok(Ask {
+fn ask(rt: &impl Abort, alloc: Global, op: Op, brokers: &[u32], dryrun: bool) -> Event {
+    let ask = Ask {
         op,
-        brokers: ListOf::new(brokers.to_vec(alloc)?),
+        brokers: ListOf::new(brokers.to_vec(alloc).expect(rt, "memory")),
         goals: ListOf::new(Vec::new(alloc)),
         skip: false,
         excluded: ListOf::new(Vec::new(alloc)),
         dryrun,
-    })
+    };
+    Event::Submit(ask, None)
 }
 
-fn plan(alloc: Global, job: Option<(u64, Problem)>) -> Result<Event, Fail> {
-    let (ticket, problem) = job.ok_or("no job")?;
+fn plan(rt: &impl Abort, alloc: Global, job: Option<(u64, Problem)>) -> Event {
+    let Some((ticket, problem)) = job else {
+        panic!(rt; "no job");
+    };
     let (case, start, goals) = problem.into_parts();
-    match optimise(alloc, &case, &start, &goals) {
-        Ok(plan) => Ok(Event::Planned(ticket, plan)),
-        Err(_) => Err("no plan".into()),
-    }
+    let Ok(plan) = optimise(alloc, &case, &start, &goals) else {
+        panic!(rt; "no plan");
+    };
+    Event::Planned(ticket, plan)
 }
 
-fn copy(copier: &mut MemoryCopier, work: Option<Given>) -> Result<Event, Fail> {
-    let given = work.ok_or("no work")?;
-    match given.work {
-        Work::Copy { to, chunk } => {
-            let receipt = copy_chunk(copier, given.lease, given.part, to, chunk)?;
-            Ok(Event::Copied(receipt))
-        }
-        _ => Err("no copy".into()),
-    }
+fn copy(rt: &impl Abort, copier: &mut MemoryCopier, work: Option<Given>) -> Event {
+    let Some(given) = work else {
+        panic!(rt; "no work");
+    };
+    let Work::Copy { to, chunk } = given.work else {
+        panic!(rt; "no copy");
+    };
+    let Ok(receipt) = copy_chunk(copier, given.lease, given.part, to, chunk) else {
+        panic!(rt; "memory");
+    };
+    Event::Copied(receipt)
 }
 
 impl Run {
-    fn event(&mut self, alloc: Global, step: Step) -> Result<Event, Fail> {
-        Ok(match step {
-            Step::Remove => Event::Submit(ask(alloc, Op::RemoveBroker, &[0], false)?, None),
-            Step::Rebalance { dry } => Event::Submit(ask(alloc, Op::Rebalance, &[], dry)?, None),
+    fn event(&mut self, rt: &impl Abort, alloc: Global, step: Step) -> Event {
+        match step {
+            Step::Remove => ask(rt, alloc, Op::RemoveBroker, &[0], false),
+            Step::Rebalance { dry } => ask(rt, alloc, Op::Rebalance, &[], dry),
             Step::PlanTake => Event::PlanTake,
-            Step::Plan => plan(alloc, self.job.take())?,
+            Step::Plan => plan(rt, alloc, self.job.take()),
             Step::PlanBack(ticket) => Event::PlanBack(ticket),
             Step::Stop(force) => Event::Stop(force),
             Step::Kill(broker) => Event::Kill(broker),
             Step::Take => Event::Take,
-            Step::Copy => copy(&mut self.copier, self.work)?,
+            Step::Copy => copy(rt, &mut self.copier, self.work),
             Step::Commit(lease) => Event::Commit(lease),
             Step::Cancel(lease) => Event::Cancel(lease),
             Step::Close => Event::Close,
-        })
+        }
     }
 
-    // Takes a step, and tells the reply or the fault in short.
-    fn step(&mut self, alloc: Global, step: Step) -> Result<String, Fail> {
-        let event = self.event(alloc, step)?;
+    // Takes an event, and tells the reply or the fault in short.
+    fn answer(&mut self, alloc: Global, event: Event) -> Result<String, AllocError> {
         match self.book.step(event) {
             Ok(Reply::Job(ticket, problem)) => {
                 self.job = Some((ticket, problem));
-                Ok(format!(in alloc; "job {ticket}")?)
+                format!(in alloc; "job {ticket}")
             }
             Ok(Reply::Work(given)) => {
                 self.work = Some(given);
-                Ok(format!(in alloc; "lease {} for {:?}", given.lease, given.work)?)
+                format!(in alloc; "lease {} for {:?}", given.lease, given.work)
             }
             Ok(reply) => told(alloc, &reply),
-            Err((fault, _)) => Ok(format!(in alloc; "{fault:?}")?),
+            Err((fault, _)) => format!(in alloc; "{fault:?}"),
         }
+    }
+
+    fn step(&mut self, rt: &impl Abort, alloc: Global, step: Step) -> String {
+        let event = self.event(rt, alloc, step);
+        self.answer(alloc, event).expect(rt, "memory")
     }
 }
 
 // The other replies, in short.
-fn told(alloc: Global, reply: &Reply) -> Result<String, Fail> {
-    Ok(match reply {
-        Reply::Accepted(id) => format!(in alloc; "accepted {}", id.as_u128() & 0xff)?,
-        Reply::Executing(id) => format!(in alloc; "executing {}", id.as_u128() & 0xff)?,
-        Reply::StaleJob(last) => format!(in alloc; "stale job {last}")?,
-        Reply::SentBack => String::from_str(alloc, "sent back")?,
-        Reply::PlanDone => String::from_str(alloc, "planned")?,
-        Reply::Stopped(stopped) => format!(in alloc;
-            "stopped {} {}",
-            stopped.aborted, stopped.aborting
-        )?,
-        Reply::Killed(killed) => format!(in alloc; "killed {} {}", killed.dead, killed.aborting)?,
-        Reply::Idle(reason, _) => format!(in alloc; "{reason:?}")?,
-        Reply::Left(left) => format!(in alloc; "left {left}")?,
-        Reply::AbortAsked => String::from_str(alloc, "abort asked")?,
-        Reply::Committed => String::from_str(alloc, "committed")?,
-        Reply::Cancelled(phase) => format!(in alloc; "{phase:?}")?,
-        Reply::Closed => String::from_str(alloc, "closed")?,
-        Reply::Closing => String::from_str(alloc, "closing")?,
-        _ => String::from_str(alloc, "another")?,
-    })
-}
-
-// Takes steps, each of which has its answer.
-fn steps(rt: &impl Abort, alloc: Global, run: &mut Run, rows: &[(Step, &str)]) -> Result<(), Fail> {
-    for (step, wanted) in rows {
-        let answer = run.step(alloc, *step)?;
-        assert_eq!(rt; answer.as_str(), *wanted);
+fn told(alloc: Global, reply: &Reply) -> Result<String, AllocError> {
+    match reply {
+        Reply::Accepted(id) => format!(in alloc; "accepted {}", id.as_u128() & 0xff),
+        Reply::Executing(id) => format!(in alloc; "executing {}", id.as_u128() & 0xff),
+        Reply::StaleJob(last) => format!(in alloc; "stale job {last}"),
+        Reply::SentBack => format!(in alloc; "sent back"),
+        Reply::PlanDone => format!(in alloc; "planned"),
+        Reply::Stopped(stopped) => {
+            format!(in alloc; "stopped {} {}", stopped.aborted, stopped.aborting)
+        }
+        Reply::Killed(killed) => format!(in alloc; "killed {} {}", killed.dead, killed.aborting),
+        Reply::Idle(reason, _) => format!(in alloc; "{reason:?}"),
+        Reply::Left(left) => format!(in alloc; "left {left}"),
+        Reply::AbortAsked => format!(in alloc; "abort asked"),
+        Reply::Committed => format!(in alloc; "committed"),
+        Reply::Cancelled(phase) => format!(in alloc; "{phase:?}"),
+        Reply::Closed => format!(in alloc; "closed"),
+        Reply::Closing => format!(in alloc; "closing"),
+        _ => format!(in alloc; "another"),
     }
-    Ok(())
 }
 
-// Takes steps on a book of its own; then the partition has this list.
+// Takes steps, each of which has its answer, on a book of its own, whose admin fails at these calls; then the partition has this list.
 fn run_rows(
     rt: &impl Abort,
     alloc: Global,
     text: &str,
+    failing: &[u64],
     rows: &[(Step, &str)],
     list: &[u32],
-) -> Result<(), Fail> {
-    let mut run = run_of(alloc, text, Vec::new(alloc))?;
-    steps(rt, alloc, &mut run, rows)?;
+) {
+    let mut run = run_of(rt, alloc, text, failing);
+    for (step, wanted) in rows {
+        let answer = run.step(rt, alloc, *step);
+        assert_eq!(rt; answer.as_str(), *wanted);
+    }
     assert!(rt; run.book.parts() > 0);
     assert_eq!(rt; run.book.admin().inner().list(0), list);
-    Ok(())
+    assert_eq!(rt; run.book.failures(), failing.len() as u64);
+    assert_eq!(rt; run.book.journal().len() + failing.len(), rows.len());
 }
 
 const FORCED: [(Step, &str); 10] = [
@@ -202,11 +207,11 @@ const SOFT: [(Step, &str); 8] = [
 ];
 
 #[test]
-fn stops_undo_or_finish_what_is_in_flight(rt: HostRuntime) -> Result<(), Fail> {
+fn stops_undo_or_finish_what_is_in_flight(rt: HostRuntime) {
     let alloc = rt.alloc();
-    run_rows(&rt, alloc, TWO, &FORCED[..6], &[0, 1])?;
-    run_rows(&rt, alloc, TWO, &FORCED, &[0])?;
-    run_rows(&rt, alloc, TWO, &SOFT, &[1])
+    run_rows(&rt, alloc, TWO, &[], &FORCED[..6], &[0, 1]);
+    run_rows(&rt, alloc, TWO, &[], &FORCED, &[0]);
+    run_rows(&rt, alloc, TWO, &[], &SOFT, &[1]);
 }
 
 const KILLED: [(Step, &str); 10] = [
@@ -223,10 +228,10 @@ const KILLED: [(Step, &str); 10] = [
 ];
 
 #[test]
-fn the_death_of_a_target_dooms_its_task(rt: HostRuntime) -> Result<(), Fail> {
+fn the_death_of_a_target_dooms_its_task(rt: HostRuntime) {
     let alloc = rt.alloc();
-    run_rows(&rt, alloc, TWO, &KILLED[..5], &[0, 1])?;
-    run_rows(&rt, alloc, TWO, &KILLED, &[0])
+    run_rows(&rt, alloc, TWO, &[], &KILLED[..5], &[0, 1]);
+    run_rows(&rt, alloc, TWO, &[], &KILLED, &[0]);
 }
 
 const OVERTAKEN: [(Step, &str); 7] = [
@@ -240,9 +245,9 @@ const OVERTAKEN: [(Step, &str); 7] = [
 ];
 
 #[test]
-fn a_plan_that_a_death_overtook_is_sent_back(rt: HostRuntime) -> Result<(), Fail> {
+fn a_plan_that_a_death_overtook_is_sent_back(rt: HostRuntime) {
     let alloc = rt.alloc();
-    run_rows(&rt, alloc, THREE, &OVERTAKEN, &[0, 1])
+    run_rows(&rt, alloc, THREE, &[], &OVERTAKEN, &[0, 1]);
 }
 
 const REQUESTS: [(Step, &str); 6] = [
@@ -255,9 +260,9 @@ const REQUESTS: [(Step, &str); 6] = [
 ];
 
 #[test]
-fn one_request_at_a_time_is_carried_out(rt: HostRuntime) -> Result<(), Fail> {
+fn one_request_at_a_time_is_carried_out(rt: HostRuntime) {
     let alloc = rt.alloc();
-    run_rows(&rt, alloc, TWO, &REQUESTS, &[0])
+    run_rows(&rt, alloc, TWO, &[], &REQUESTS, &[0]);
 }
 
 const FAILING: [(Step, &str); 5] = [
@@ -268,26 +273,10 @@ const FAILING: [(Step, &str); 5] = [
     (Step::Take, "lease 1 for Copy { to: 1, chunk: 0 }"),
 ];
 
-// The admin's second call fails, which is the first write of a task.
-fn run_failing(
-    rt: &impl Abort,
-    alloc: Global,
-    rows: &[(Step, &str)],
-    list: &[u32],
-    entries: usize,
-) -> Result<(), Fail> {
-    let mut run = run_of(alloc, TWO, vec![in alloc; 2]?)?;
-    steps(rt, alloc, &mut run, rows)?;
-    assert!(rt; run.book.parts() > 0);
-    assert_eq!(rt; run.book.admin().inner().list(0), list);
-    assert_eq!(rt; run.book.journal().len(), entries);
-    assert_eq!(rt; run.book.failures(), 1);
-    Ok(())
-}
-
 #[test]
-fn a_failed_write_changes_nothing(rt: HostRuntime) -> Result<(), Fail> {
+fn a_failed_write_changes_nothing(rt: HostRuntime) {
     let alloc = rt.alloc();
-    run_failing(&rt, alloc, &FAILING[..4], &[0], 3)?;
-    run_failing(&rt, alloc, &FAILING, &[0, 1], 4)
+    // the admin's second call is the first write of a task
+    run_rows(&rt, alloc, TWO, &[2], &FAILING[..4], &[0]);
+    run_rows(&rt, alloc, TWO, &[2], &FAILING, &[0, 1]);
 }

@@ -3,7 +3,6 @@ ghost use Rattle.std.specs.Prelude.{◌≡◌, ◌≤◌, ◌<◌, ◌^◌, true
 ghost use Rattle.cc_base.specs.Outside.{HasRisen};
 ghost use Rattle.exec_terms.specs.Leases.{test_lease};
 ghost use Rattle.exec_terms.specs.Machine.{any_unfinished, next_work};
-ghost use Rattle.exec_terms.specs.Valid.{IsValid};
 ghost use Rattle.core_terms.specs.History.{is_outward};
 ghost use Rattle.core_terms.specs.Writes.{begun, told_after, written};
 ghost use Rattle.control_core.specs.LastWork.{last_list};

@@ -7,6 +7,11 @@ use Rattle.core_terms.specs.Writes.{told_after}
 use Rattle.control_core.proofs.Stepped.{installed_is, is_now, now, ready, room_for_one, stepped, where_ok}
 use Rattle.control_core.proofs.book.Book.step.Goals as goal
 
+pub make_room-requires-clause-tickets : goal.make_room-requires-clause-tickets
+make_room-requires-clause-tickets g c =
+    let b = c.self.inside in
+    (ready (g.A.Admin.told b.admin) (g.A.Admin.parts b.admin) (g.A.Admin.faults b.admin) b.machine b.journal.items (vec_capacity b.journal) b.failures b.late c.self.invariant).sound.tickets
+
 pub write-requires-clause-few : goal.write-requires-clause-few
 write-requires-clause-few g c =
     let b = c.self.inside in
