@@ -11,7 +11,7 @@ from goals import GOALS
 
 # Words that stand in texts of the program alone, and so in code.
 FORBIDDEN = ("can't be had", "a front of", "want of memory", "exactly where", "that can be had")
-PAGES = [ROOT / "README.md", ROOT / "crates/README.md", *ROOT.glob("docs/*.md")]
+PAGES = [ROOT / "README.md", *ROOT.glob("docs/*.md")]
 HEADINGS = [
     "What it needs",
     "Run it",
@@ -73,8 +73,8 @@ class Documents(unittest.TestCase):
         for name in below:
             self.assertIn(name, text)
         self.assertEqual(set(re.findall(r"^\| (\w+) \| ", apart, re.M)) - {"crate"}, set(below) - used)
-        listed = re.findall(r"^- `(\w+)`: .+$", (ROOT / "crates/README.md").read_text(), re.M)
-        self.assertEqual(listed, list(below), "crates/README.md has one line a crate, in the order of crates.txt")
+        listed = re.findall(r"^- `(\w+)`: .+$", (ROOT / "docs/CRATES.md").read_text(), re.M)
+        self.assertEqual(listed, list(below), "docs/CRATES.md has one line a crate, in the order of crates.txt")
 
     def test_definitions(self):
         """Each row of a table of definitions is one definition, and the file that it names has it."""
