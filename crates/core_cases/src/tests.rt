@@ -1,5 +1,6 @@
-// A small file is opened, asked of and shown.
-ghost use Rattle.std.specs.Prelude.{◌≡◌, IfOk, length};
+// A small file is opened, asked of and shown. Where a call fails the tests panic, in place of `?`, so that each value is dropped at one place
+// alone: the proof of each drop is long.
+ghost use Rattle.std.specs.Prelude.{◌≡◌, length};
 
 use super::*;
 use cluster_json::read_cluster;
@@ -9,7 +10,6 @@ use load_model::Case;
 use plan_terms::{BrokerState, Topic};
 use std::alloc::Global;
 use std::process::Abort;
-use std::test::Fail;
 use user_tasks::{Ask, ListOf, Op, Status, UserTask};
 
 // The file's own load of the first partition, a sample of the second, and none of the third.
@@ -26,16 +26,16 @@ const PLACES: [(&str, u32, Option<usize>); 5] = [
 ];
 
 // That broker 1 is removed, and topic "a" left out.
-fn removal(alloc: Global) -> Result<Ask, Fail> {
-    let topic = Topic::new(String::from_str(alloc, "a")?);
-    Ok(Ask {
+fn removal(rt: &impl Abort, alloc: Global) -> Ask {
+    let topic = Topic::new(String::from_str(alloc, "a").expect(rt, "memory"));
+    Ask {
         op: Op::RemoveBroker,
-        brokers: ListOf::new(vec![in alloc; 1]?),
+        brokers: ListOf::new((vec![in alloc; 1]).expect(rt, "memory")),
         goals: ListOf::new(Vec::new(alloc)),
         skip: false,
-        excluded: ListOf::new(vec![in alloc; topic]?),
+        excluded: ListOf::new((vec![in alloc; topic]).expect(rt, "memory")),
         dryrun: false,
-    })
+    }
 }
 
 // What each broker of the case, and each partition, is to be.
@@ -53,31 +53,37 @@ fn expect_case(rt: &impl Abort, case: &Case) {
 }
 
 // The file, opened.
-fn opened_file(alloc: Global) -> Result<OpenFile, Fail> {
-    Ok(OpenFile::new(alloc, read_cluster(alloc, FILE.as_bytes())?)?)
+fn opened_file(rt: &impl Abort, alloc: Global) -> OpenFile {
+    let Ok(file) = read_cluster(alloc, FILE.as_bytes()) else {
+        panic!(rt; "no cluster");
+    };
+    OpenFile::new(alloc, file).expect(rt, "memory")
 }
 
 // An executor of the file's lists.
-fn executor(alloc: Global, file: &OpenFile) -> Result<Exec, Fail>
-    ensures { IfOk result (λ exec. length exec.base ≡ length file.now.cluster.parts) }
+fn executor(rt: &impl Abort, alloc: Global, file: &OpenFile) -> Exec
+    ensures { length result.base ≡ length file.now.cluster.parts }
 {
-    Ok(opened(alloc, file.case(), file.caps(), file.lists())?)
+    let Ok(exec) = opened(alloc, file.case(), file.caps(), file.lists()) else {
+        panic!(rt; "no executor");
+    };
+    exec
 }
 
 // The cluster of the request, without any samples but the file's.
-fn asked_case(alloc: Global, file: &OpenFile, exec: &Exec, ask: &Ask) -> Result<Case, Fail>
-    ensures { IfOk result (λ case. length case.parts ≡ length file.now.cluster.parts) }
+fn asked_case(rt: &impl Abort, alloc: Global, file: &OpenFile, exec: &Exec, ask: &Ask) -> Case
+    ensures { length result.parts ≡ length file.now.cluster.parts }
 {
-    let windows = windows_of(alloc, file)?;
-    let case = present(alloc, file, &windows, exec)?;
-    Ok(case_of(alloc, ask, case)?)
+    let windows = windows_of(alloc, file).expect(rt, "memory");
+    let case = present(alloc, file, &windows, exec).expect(rt, "memory");
+    case_of(alloc, ask, case).expect(rt, "memory")
 }
 
 // What the brokers carry.
-fn expect_loads(rt: &(impl Abort + AllocGlobal), case: &Case, exec: &Exec) -> Result<(), Fail>
+fn expect_loads(rt: &impl Abort, alloc: Global, case: &Case, exec: &Exec)
     requires { length exec.now.base ≡ length case.now.parts }
 {
-    let rows = load_shown(rt.alloc(), case, exec)?;
+    let rows = load_shown(alloc, case, exec).expect(rt, "memory");
     for (row, carried) in rows
         .as_slice()
         .iter()
@@ -85,56 +91,48 @@ fn expect_loads(rt: &(impl Abort + AllocGlobal), case: &Case, exec: &Exec) -> Re
     {
         assert_eq!(rt; (row.disk, row.replicas, row.leaders), carried);
     }
-    Ok(())
 }
 
 // The lost brokers, and as many partitions as the file has.
-fn expect_cluster(
-    rt: &(impl Abort + AllocGlobal),
-    file: &OpenFile,
-    case: &Case,
-    exec: &Exec,
-) -> Result<(), Fail>
+fn expect_cluster(rt: &impl Abort, alloc: Global, file: &OpenFile, case: &Case, exec: &Exec)
     requires { length exec.now.base ≡ length file.now.cluster.parts }
 {
-    match cluster_shown(rt.alloc(), file, case, exec)? {
-        Shown::ClusterState(lost, parts) => {
-            assert_eq!(rt; lost.as_slice(), [1].as_slice());
-            assert_eq!(rt; parts.as_slice().len(), 3);
-        }
-        _ => panic!(rt; "the cluster is shown"),
-    }
-    Ok(())
+    let shown = cluster_shown(alloc, file, case, exec).expect(rt, "memory");
+    let Shown::ClusterState(lost, parts) = shown else {
+        panic!(rt; "the cluster is shown");
+    };
+    assert_eq!(rt; lost.as_slice(), [1].as_slice());
+    assert_eq!(rt; parts.as_slice().len(), 3);
 }
 
 #[test]
-fn partitions_are_found_by_topic_and_number(rt: HostRuntime) -> Result<(), Fail> {
-    let file = opened_file(rt.alloc())?;
+fn partitions_are_found_by_topic_and_number(rt: HostRuntime) {
+    let file = opened_file(&rt, rt.alloc());
     for (topic, number, place) in PLACES {
         assert_eq!(rt; file.part_place(topic, number), place);
     }
-    Ok(())
 }
 
 #[test]
-fn a_request_sees_the_present_cluster(rt: HostRuntime) -> Result<(), Fail> {
+fn a_request_sees_the_present_cluster(rt: HostRuntime) {
     let alloc = rt.alloc();
-    let file = opened_file(alloc)?;
-    let exec = executor(alloc, &file)?;
-    let ask = removal(alloc)?;
-    assert_eq!(rt; goals_of(alloc, &ask)?.kinds().len(), 18);
-    let case = asked_case(alloc, &file, &exec, &ask)?;
+    let file = opened_file(&rt, alloc);
+    let exec = executor(&rt, alloc, &file);
+    let ask = removal(&rt, alloc);
+    let goals = goals_of(alloc, &ask).expect(&rt, "memory");
+    assert_eq!(rt; goals.kinds().len(), 18);
+    let case = asked_case(&rt, alloc, &file, &exec, &ask);
     expect_case(&rt, &case);
-    expect_loads(&rt, &case, &exec)?;
-    expect_cluster(&rt, &file, &case, &exec)
+    expect_loads(&rt, alloc, &case, &exec);
+    expect_cluster(&rt, alloc, &file, &case, &exec);
 }
 
 #[test]
-fn user_tasks_are_shown(rt: HostRuntime) -> Result<(), Fail> {
+fn user_tasks_are_shown(rt: HostRuntime) {
     let alloc = rt.alloc();
-    let ask = removal(alloc)?;
+    let ask = removal(&rt, alloc);
     let status = Status::Active;
-    let tasks = vec![in alloc; UserTask { ask, status }]?;
-    assert_eq!(rt; tasks_shown(alloc, &tasks)?.as_slice().len(), 1);
-    Ok(())
+    let tasks = (vec![in alloc; UserTask { ask, status }]).expect(&rt, "memory");
+    let shown = tasks_shown(alloc, &tasks).expect(&rt, "memory");
+    assert_eq!(rt; shown.as_slice().len(), 1);
 }
