@@ -14,8 +14,6 @@ mod serve;
 mod shown;
 mod stops;
 mod submits;
-#[cfg(test)]
-mod tests;
 mod writes;
 
 pub use book::Book;

@@ -19,6 +19,3 @@ pub use moments::present;
 pub use same::{failure_is_for, plan_is_for, same_ask};
 pub use samples::sample;
 pub use shows::{cluster_shown, load_shown, state_shown, tasks_shown};
-
-#[cfg(test)]
-mod tests;

@@ -8,8 +8,6 @@ mod owner;
 mod pumps;
 mod round;
 mod takes;
-#[cfg(test)]
-mod tests;
 mod work;
 
 pub use asker::Asker;

@@ -2,8 +2,10 @@
 // alone: the proof of each drop is long.
 ghost use Rattle.std.specs.Prelude.{◌≡◌, length};
 
-use super::*;
 use cluster_json::read_cluster;
+use core_cases::{
+    OpenFile, case_of, cluster_shown, goals_of, load_shown, present, tasks_shown, windows_of,
+};
 use core_terms::Shown;
 use executor_core::{Exec, opened};
 use load_model::Case;

@@ -1,14 +1,14 @@
 // Replies byte for byte. Where memory is wanting the test panics, in place of `?`, so that no row is let go there: the proof of each drop is
 // long.
-use super::*;
 use core_terms::{
-    BrokerShown, ExecutorState, Named, Outcome, PartShown, Reason, Reply, Shown, StateShown,
-    StepFault, TaskShown,
+    BrokerShown, ExecutorState, Named, Outcome, PartShown, PumpEnd, Reason, Reply, Shown,
+    StateShown, StepFault, TaskShown,
 };
 use exec_terms::{Killed, PhaseCounts, Stopped};
 use goal_set::{GoalFault, GoalKind};
 use plan_terms::{BrokerState, Caps, GoalName, Replicas, Topic};
 use rest_parse::{HttpFault, ParameterName, Stop};
+use rest_replies::{Told, reply_bytes};
 use std::alloc::Global;
 use std::process::Abort;
 use user_tasks::{ListOf, Op, Status, task_id};

@@ -1,10 +1,10 @@
 // Pumps and drains of a book, whose admin and copier fail where a row says so. Where a call fails the test panics, in place of `?`, so that
 // a book is dropped at one place alone: the proof of each drop is long.
-use super::*;
 use cluster_gate::{FailingAdmin, FailingCopier, MemoryCluster, MemoryCopier};
 use cluster_json::read_cluster;
 use control_core::Book;
 use core_terms::{Event, Reply};
+use mover_rounds::{drain, pump_book};
 use std::alloc::{AllocError, Global};
 use std::process::Abort;
 use user_tasks::{Ask, ListOf, Op};

@@ -1,8 +1,8 @@
 // Runs of a book, written as steps and what each is answered. Where a call fails the tests panic, in place of `?`, so that a book is
 // dropped at one place alone: the proof of each drop is long.
-use super::*;
 use cluster_gate::{FailingAdmin, MemoryCluster, MemoryCopier, copy_chunk};
 use cluster_json::read_cluster;
+use control_core::Book;
 use core_terms::{Event, Problem, Reply};
 use exec_terms::{Given, Work};
 use goal_optimizer::optimise;

@@ -1,0 +1,5 @@
+//! Tests of the replies over HTTP.
+#![tactic(auto)]
+
+#[cfg(test)]
+mod replies;

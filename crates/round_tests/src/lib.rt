@@ -1,0 +1,5 @@
+//! Tests of rounds: how pumps and drains of a book end.
+#![tactic(auto)]
+
+#[cfg(test)]
+mod rounds;
