@@ -1,6 +1,5 @@
 // What a run gives for words and files, as rows of plain data, and what the libraries below give for a file. Where a call fails the tests
 // panic, in place of `?`, so that each value is dropped at one place alone: the proof of each drop is long.
-mod clusters;
 mod goals;
 mod rows;
 mod sessions;
@@ -13,7 +12,6 @@ use cc_base::{
     Failing, FileFault, Files, Joined, MemoryFile, MemoryFiles, MemorySink, MemorySource,
 };
 use cluster_json::read_cluster;
-use clusters::CLUSTERS;
 use core_cases::goals_of;
 use goals::GOALS;
 use rows::{ROWS, Row, TRACES, TURNS, WITHOUT_MEMORY};
@@ -183,13 +181,6 @@ fn expect_good<R: Threads + Sync + Abort + AllocGlobal>(rt: &R, cluster: &str) {
     let checked = run_over(rt, "check cluster trace", cluster, trace);
     assert_eq!(rt; checked.status, 0);
     assert_eq!(rt; checked.out.as_slice(), b"good\n".as_slice());
-}
-
-#[test]
-fn traces_of_plans_are_good(rt: HostRuntime) {
-    for cluster in CLUSTERS {
-        expect_good(&rt, cluster);
-    }
 }
 
 #[test]

@@ -6,13 +6,13 @@ ghost use Rattle.goal_set.specs.Kinds.{meanings};
 ghost use Rattle.plan_terms.specs.Belongs.{Belongs, IsBookOf};
 ghost use Rattle.plan_terms.specs.Effect.{after};
 ghost use Rattle.plan_terms.specs.Legal.{is_legal};
-ghost use Rattle.plan_terms.specs.Trace.{Step};
+ghost use Rattle.plan_terms.specs.Trace.{NoneLeft, Step};
 ghost use Rattle.plan_check.specs.Ends.{IsActionFault, IsTurnEnd};
 ghost use Rattle.plan_check.specs.Judged.{IsGoodBefore, Judges};
 ghost use Rattle.plan_check.specs.declared.faults.Verdict.TheVariants as verdict;
 
 use crate::faults::{FaultKind, Verdict};
-use candidate_order::{all_accept, plain_next};
+use candidate_order::{Order, Scan, all_accept, next_lessening};
 use goal_set::{AnyGoal, GoalKind, GoalList, Trace, goals_of};
 use load_model::{Assign, Case, LoadBook, Memory};
 use move_actions::{Action, Goal, Moves, legal, measure};
@@ -67,6 +67,27 @@ fn take_step(alloc: Global, case: &Case, book: &mut LoadBook, action: Action) ->
     Ok(())
 }
 
+// An action that is left where a turn ends: a legal one that the earlier goals accept and that lessens the goal. The planner's search finds
+// it, since its contract is the definition's: to try each action by itself would take minutes where the plan took a second.
+fn action_left<G: Goal>(
+    alloc: Global,
+    case: &Case,
+    book: &LoadBook,
+    earlier: &[G],
+    goal: &G,
+) -> Result<Option<Action>, Memory>
+    requires made { All (λ g. G.made_for g case.now) earlier.now }
+    requires made_goal { G.made_for goal.now case.now }
+    requires belongs { IsBookOf case.now book.now }
+    ensures { IfOk result (λ left. MatchOption left
+        (NoneLeft case.now (map (λ g. G.meaning g case.now) earlier.now) (G.meaning goal.now case.now) book.now.lists)
+        (λ a. Step case.now (map (λ g. G.meaning g case.now) earlier.now) (G.meaning goal.now case.now) book.now.lists a)) }
+{
+    let order = Order::new(alloc, case, book)?;
+    let mut scan = Scan::new(alloc, case, earlier)?;
+    next_lessening(alloc, case, book, &order, &mut scan, earlier, goal)
+}
+
 // Follows the actions of a goal's turn.
 fn judge_turn<G: Goal>(
     alloc: Global,
@@ -94,7 +115,7 @@ fn judge_turn<G: Goal>(
     if measure(goal, case, &here) == 0 {
         return Ok(TurnEnd::Done(here));
     }
-    let left = plain_next(alloc, case, &here, earlier, goal)?;
+    let left = action_left(alloc, case, &here, earlier, goal)?;
     match left {
         Some(_) => Ok(TurnEnd::Fault {
             action: actions.len(),

@@ -4,8 +4,6 @@
 mod checker;
 mod faults;
 mod read;
-#[cfg(test)]
-mod tests;
 mod text;
 
 pub use checker::check;

@@ -5,7 +5,5 @@
 mod lines;
 mod replay;
 mod summary;
-#[cfg(test)]
-mod tests;
 
 pub use summary::{failure_summary, plan_summary};

@@ -1,12 +1,12 @@
 // Summaries of small clusters, as whole texts.
 ghost use Rattle.std.specs.Prelude.{◌≡◌, IfOk, length, slice_index};
 
-use super::*;
 use goal_optimizer::{PlanFault, optimise};
 use goal_set::GoalList;
 use load_model::{
     Assign, Broker, BrokerState, Case, GoalName, Loads, Options, Part, RackName, Ratio, Topic,
 };
+use plan_summary::{failure_summary, plan_summary};
 use plan_terms::MinLeadersList;
 use std::alloc::Global;
 use std::test::Fail;

@@ -1,5 +1,5 @@
 // Texts that are no trace, and texts of one trace.
-use super::*;
+use plan_check::{TraceFault, read_trace, trace_text};
 use std::test::Fail;
 
 #[test]
