@@ -1,5 +1,5 @@
 // What a command makes, whole in memory, before any of it is written.
-ghost use Rattle.std.specs.Prelude.{◌≡◌, ◌≤◌, ◌++◌, ◌∷◌, [], IfOk};
+ghost use Rattle.std.specs.Prelude.{◌≡◌, ◌≤◌, IfOk};
 ghost use Rattle.cc_program.specs.Edges.{Writes, io_of};
 ghost use Rattle.cc_program.specs.Ends.{IsFailureEnd};
 

@@ -1,9 +1,8 @@
 // What `plan` makes.
-ghost use Rattle.std.specs.Prelude.{◌≡◌, ◌++◌, ◌∷◌, [], codes, decimal, IfOk};
+ghost use Rattle.std.specs.Prelude.{◌≡◌, ◌++◌, ◌∷◌, [], codes, IfOk};
 ghost use Rattle.plan_terms.specs.Belongs.{Belongs};
 ghost use Rattle.plan_terms.specs.Change.{proposals};
 ghost use Rattle.proposal_set.specs.Text.{reassignment_text};
-ghost use Rattle.goal_set.specs.Kept.{IsFailure};
 ghost use Rattle.serde_json.specs.Data.{member, no_members, object, string};
 ghost use Rattle.serde_json.specs.View.{view};
 ghost use Rattle.cluster_json.specs.Ranges.{IsFile};

@@ -1,11 +1,10 @@
 // The links of a listener.
-ghost use Rattle.std.specs.Prelude.{◌≡◌, ◌≤◌, ◌<◌, Err, Ok, IfErr, IfOk, OnErr, OnOk, [], map, vec_len, vec_capacity};
-ghost use Rattle.cc_base.specs.Outside.{HasCause, HasRisen};
+ghost use Rattle.std.specs.Prelude.{◌≡◌, ◌≤◌, ◌<◌, Err, Ok, OnOk, [], map, vec_len, vec_capacity};
+ghost use Rattle.cc_base.specs.Outside.{HasCause};
 ghost use Rattle.live_service.specs.Fronts.{HasLinkCause, HasServedLinks};
 ghost use Rattle.live_service.specs.Views.{link_of, served_of};
 ghost use Rattle.mover_rounds.specs.Made.{copier_of};
 ghost use Rattle.mover_workers.specs.Callers.{Belongs, IsLater, known_by_pass};
-ghost use Rattle.net_links.specs.Links.{IsFresh};
 ghost use Rattle.rest_session.specs.Answered.{HasServed};
 
 use crate::link::serve_link;

@@ -1,5 +1,4 @@
 // The owner of a book.
-ghost use Rattle.std.specs.Prelude.{◌≡◌};
 
 use crate::asker::Asker;
 use cluster_gate::Admin;

@@ -1,5 +1,4 @@
 // Rounds, one after another.
-ghost use Rattle.std.specs.Prelude.{◌≡◌};
 ghost use Rattle.mover_rounds.specs.Exact.{HasPumpedAlone};
 ghost use Rattle.mover_rounds.specs.Made.{HasPumped, IsPumpCause, copier_of};
 ghost use Rattle.mover_rounds.specs.Owned.{IsSince, known_by_owner};

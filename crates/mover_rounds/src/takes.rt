@@ -1,5 +1,5 @@
 // What a planner and a mover ask first.
-ghost use Rattle.std.specs.Prelude.{◌≡◌, IfOk, IfErr, Ok, Err};
+ghost use Rattle.std.specs.Prelude.{IfOk, IfErr, Ok, Err};
 ghost use Rattle.mover_rounds.specs.Asked.{HasAsked, IsUnasked};
 
 use crate::asker::Asker;

@@ -1,5 +1,5 @@
 // The loop of a session.
-ghost use Rattle.std.specs.Prelude.{◌≡◌, ◌≤◌, IsNone, [], None};
+ghost use Rattle.std.specs.Prelude.{◌≡◌, ◌≤◌, [], None};
 ghost use Rattle.cc_base.specs.Outside.{HasRisen};
 ghost use Rattle.mover_rounds.specs.Made.{copier_of};
 ghost use Rattle.rest_session.specs.Answered.{HasServed, IsRefused, end_of};
