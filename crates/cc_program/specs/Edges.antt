@@ -1,6 +1,9 @@
 -- What a run does to the outside.
 use Rattle.std.specs.Prelude.{◌≡◌, ◌⊎◌, ℕ, List, Option, Result, Ok, Err}
 use Rattle.cc_base.specs.Outside.{HasRisen, IsPrefixOut, appended}
+use Rattle.cc_base.specs.declared.outside.Files as files_trait
+use Rattle.cc_base.specs.declared.outside.Sink as sink_trait
+use Rattle.cc_base.specs.declared.outside.Source as source_trait
 use Rattle.cc_program.specs.declared.answers.Answer.{Answer}
 use Rattle.cc_program.specs.declared.ends.End.{End}
 use Rattle.cc_program.specs.declared.ends.End.TheVariants.{WriteFault, Memory}
@@ -35,6 +38,14 @@ pub record Edge : Type 0 where
 
 abbrev pub edge : {F : Type 0} → (F → List ℕ → Option (List ℕ)) → (F → ℕ) → F → F → Console → Edge
 edge contents faults before now io = record { told = contents before; files_before = faults before; files_now = faults now; io = io }
+
+-- ---- the same by what the traits tell
+
+abbrev pub io_told : {L : Type 0} → source_trait.Ghosts L → sink_trait.Ghosts L → L → L → Console
+io_told r w before now = io_of r.left r.faults w.faults w.written before now
+
+abbrev pub edge_told : {F L : Type 0} → files_trait.Ghosts F → source_trait.Ghosts L → sink_trait.Ghosts L → F → F → L → L → Edge
+edge_told f r w before now console_before console_now = edge f.contents f.faults before now (io_told r w console_before console_now)
 
 -- nothing was written
 abbrev pub IsSilent : Console → Type 0

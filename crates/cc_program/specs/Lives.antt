@@ -3,6 +3,9 @@
 use Rattle.std.specs.Prelude.{◌≡◌, ◌≤◌, ◌⊎◌, ◌+◌, ℕ, Bool, true, false, List, [], length, map, Option, Some, None, IfSome, option_and_then, option_map, string_bytes}
 use Rattle.std.specs.List.{insert, list_any}
 use Rattle.cc_base.specs.Outside.{HasRisen, with_name}
+use Rattle.cc_base.specs.declared.outside.Sink as sink_trait
+use Rattle.cc_base.specs.declared.outside.Source as source_trait
+use Rattle.cluster_gate.specs.declared.copier.Copier as copier_trait
 use Rattle.cluster_json.specs.Faults.{Fault}
 use Rattle.cluster_json.specs.File.{Meaning}
 use Rattle.command_words.specs.Meaning as words
@@ -11,13 +14,14 @@ use Rattle.core_laws.specs.Alone.{IsDone}
 use Rattle.core_terms.specs.History.{AreLegal}
 use Rattle.exec_terms.specs.Machine.{lists_now}
 use Rattle.live_service.specs.Live.{IsLive}
-use Rattle.live_service.specs.Views.{FrontView, LinkView, NetView, ServedView}
+use Rattle.live_service.specs.Views.{FrontView, LinkView, NetView, ServedView, copies_told, link_told, net_of}
 use Rattle.live_service.specs.declared.front.FrontEnd.{FrontEnd}
 use Rattle.live_service.specs.declared.front.FrontEnd.TheVariants as front
 use Rattle.live_service.specs.declared.links.Serving.{Serving}
 use Rattle.mover_rounds.specs.Made.{Copies}
 use Rattle.mover_rounds.specs.declared.drains.DrainEnd.{DrainEnd}
 use Rattle.mover_rounds.specs.declared.drains.DrainEnd.TheVariants as drain
+use Rattle.net_links.specs.declared.listener.Listener as listener_trait
 use Rattle.plan_terms.specs.Cluster.{Lists}
 use Rattle.rest_session.specs.declared.session.LinkEnd.{LinkEnd}
 use Rattle.rest_session.specs.declared.session.LinkEnd.TheVariants as link
@@ -26,6 +30,7 @@ use Rattle.cc_program.specs.Input.{IsRefused, Means}
 use Rattle.cc_program.specs.Sessions.{drained_end, ended_by}
 use Rattle.cc_program.specs.declared.ends.End.{End}
 use Rattle.cc_program.specs.declared.lives.Crew.{Crew}
+use Rattle.cc_program.specs.declared.lives.Outside as lives
 use Rattle.cc_program.specs.declared.lives.LiveRequest.{LiveRequest}
 use Rattle.cc_program.specs.declared.ends.End.TheVariants.{FileFault, ListenerFault, Memory, NotDrained, Refused, Usage}
 
@@ -87,6 +92,10 @@ pub record Outside : Type 0 where
 
 abbrev pub outside_of : {K L N : Type 0} → (K → Copies) → (L → LinkView) → (N → NetView) → List K → L → N → Outside
 outside_of copies link net copiers console listener = record { copiers = map copies copiers; console = link console; net = net listener }
+
+-- the same by what the traits tell
+abbrev pub outside_told : {K L N C : Type 0} → copier_trait.Ghosts K → source_trait.Ghosts L → sink_trait.Ghosts L → listener_trait.Ghosts N C → lives.Outside K L N → Outside
+outside_told k r w n o = outside_of (copies_told k) (link_told r w) (net_of n.faults n.accepted) o.copiers.items o.console o.listener
 
 -- the console and the listener, with this copier
 abbrev pub with_copier : Copies → Outside → FrontView

@@ -35,7 +35,8 @@ pub struct Recipe {
 impl Recipe {
     /// The cluster's file.
     pub fn text(&self, alloc: Global) -> Result<Vec<u8>, Memory>
-        ensures { IfOk result (λ text. text.items ≡ cluster_text self.now.seed self.now.brokers self.now.partitions) }
+        ensures { IfOk result
+            (λ text. text.items ≡ cluster_text self.now.seed self.now.brokers self.now.partitions) }
     {
         cluster_text(alloc, self.seed, self.brokers, self.partitions)
     }
@@ -78,7 +79,9 @@ pub fn generated(
     planning: &Planning,
 ) -> Result<Answer, Memory>
     requires { IsFile file }
-    ensures { IfOk result (λ a. IsGenerated whole (cluster_text recipe.now.seed recipe.now.brokers recipe.now.partitions) (planned_for planning.now.ask (file_seen file)) (goals_of planning.now.ask) a.text.items a.end) }
+    ensures { IfOk result
+        (λ a. IsGenerated whole (cluster_text recipe.now.seed recipe.now.brokers recipe.now.partitions)
+        (planned_for planning.now.ask (file_seen file)) (goals_of planning.now.ask) a.text.items a.end) }
 {
     if whole {
         let mut text = recipe.text(alloc)?;

@@ -9,11 +9,10 @@ ghost use Rattle.cluster_json.specs.Faults.{Fault};
 ghost use Rattle.cc_program.specs.Complete.{AdminFailed, HasLiveFailed, IsCutSession, IsLiveCause, IsLiveGiven};
 ghost use Rattle.cc_program.specs.Ends.{IsTold, line_of, status_of};
 ghost use Rattle.cc_program.specs.Input.{IsRefused};
-ghost use Rattle.cc_program.specs.Lives.{IsLeft, IsLiveRefusal, IsOver, IsUnasked, Leaves, LiveAsked, copiers_before, crew_told, ended_live, gate, live_command, live_told, outside_of, shelf, wanted};
+ghost use Rattle.cc_program.specs.Lives.{IsLeft, IsLiveRefusal, IsOver, IsUnasked, Leaves, LiveAsked, copiers_before, crew_told, ended_live, gate, live_command, live_told, outside_told, shelf, wanted};
 ghost use Rattle.cc_program.specs.declared.ends.End.{End};
 ghost use Rattle.live_service.specs.Asked.{links_of};
-ghost use Rattle.live_service.specs.Views.{link_of, net_of, served_of};
-ghost use Rattle.mover_rounds.specs.Made.{copier_of};
+ghost use Rattle.live_service.specs.Views.{served_told};
 
 use crate::commands::Request;
 use crate::ends::{End, conclude};
@@ -104,7 +103,8 @@ where
 // What the words ask of a run with threads.
 fn read_live(alloc: Global, words: &[String]) -> Result<LiveRequest, WordsFault>
     ensures ok { IfOk result (λ r. live_command (map string_bytes words.now) ≡ Some (live_told r)) }
-    ensures usage { IfErr result (λ e. e ≡ WordsFault.Usage → live_command (map string_bytes words.now) ≡ None) }
+    ensures usage { IfErr result (λ e. e ≡ WordsFault.Usage
+        → live_command (map string_bytes words.now) ≡ None) }
 {
     match read_words(alloc, words)? {
         Command::Session(options) => Ok(LiveRequest {
@@ -148,8 +148,10 @@ fn copiers_before(crew: &Crew) -> usize
 
 // The same, where there are copiers enough beside that of the console.
 fn asked_live(alloc: Global, words: &[String], copiers: usize) -> Result<LiveRequest, WordsFault>
-    ensures ok { IfOk result (λ r. (live_command (map string_bytes words.now) ≡ Some (live_told r)) × (copiers_before (crew_told r.crew) < copiers)) }
-    ensures usage { IfErr result (λ e. e ≡ WordsFault.Usage → IsUnasked (map string_bytes words.now) copiers) }
+    ensures ok { IfOk result (λ r. (live_command (map string_bytes words.now) ≡ Some (live_told r))
+        × (copiers_before (crew_told r.crew) < copiers)) }
+    ensures usage { IfErr result (λ e. e ≡ WordsFault.Usage
+        → IsUnasked (map string_bytes words.now) copiers) }
 {
     let request = read_live(alloc, words)?;
     if copiers <= copiers_before(&request.crew) {
@@ -207,7 +209,10 @@ where
     requires none { room.items ≡ [] }
     requires room { links_of crew.serving ≤ vec_capacity room }
     ensures begun { IsSome result.1.book }
-    ensures over { IfSome result.1.book (λ c. IsOver (gate A.faults A.told) book.file (crew_told crew) (outside_of (copier_of K.copies K.faults) (link_of L.left L.written L.Source.faults L.Sink.faults) (net_of N.faults N.accepted) outside.copiers.items outside.console outside.listener) (outside_of (copier_of K.copies K.faults) (link_of L.left L.written L.Source.faults L.Sink.faults) (net_of N.faults N.accepted) result.1.outside.copiers.items result.1.outside.console result.1.outside.listener) (map (served_of (link_of N.Conn.left N.Conn.written N.Conn.Source.faults N.Conn.Sink.faults)) result.1.links.items) c result.0) }
+    ensures over { IfSome result.1.book (λ c. IsOver (gate A.faults A.told) book.file (crew_told crew)
+        (outside_told K.Copier L.Source L.Sink N.Listener outside)
+        (outside_told K.Copier L.Source L.Sink N.Listener result.1.outside)
+        (served_told N.Conn.Source N.Conn.Sink result.1.links.items) c result.0) }
 {
     let Outside {
         mut copiers,
@@ -288,7 +293,11 @@ where
     requires file { IsFile file }
     requires enough { crew.workers.movers + links_of crew.serving < vec_len outside.copiers }
     requires few { crew.workers.planners + (crew.workers.movers + links_of crew.serving) < 1048576 }
-    ensures left { IsLeft (gate A.faults A.told) (file_seen file) (crew_told crew) (outside_of (copier_of K.copies K.faults) (link_of L.left L.written L.Source.faults L.Sink.faults) (net_of N.faults N.accepted) outside.copiers.items outside.console outside.listener) (outside_of (copier_of K.copies K.faults) (link_of L.left L.written L.Source.faults L.Sink.faults) (net_of N.faults N.accepted) result.1.outside.copiers.items result.1.outside.console result.1.outside.listener) (map (served_of (link_of N.Conn.left N.Conn.written N.Conn.Source.faults N.Conn.Sink.faults)) result.1.links.items) admin result.1.admin result.1.book result.0 }
+    ensures left { IsLeft (gate A.faults A.told) (file_seen file) (crew_told crew)
+        (outside_told K.Copier L.Source L.Sink N.Listener outside)
+        (outside_told K.Copier L.Source L.Sink N.Listener result.1.outside)
+        (served_told N.Conn.Source N.Conn.Sink result.1.links.items)
+        admin result.1.admin result.1.book result.0 }
 {
     let Ok(room) = Vec::with_capacity(alloc, links_in(&crew.serving) as usize) else {
         return (End::Memory, unbegun(alloc, admin, outside));
@@ -318,8 +327,14 @@ fn run<
 where
     N::Conn: Send + Drop,
     ensures files { F.faults files.old ≤ F.faults files.new }
-    ensures leaves { Leaves (gate A.faults A.told) (map string_bytes words.now) (shelf F.contents F.faults F.log files.old files.new) (outside_of (copier_of K.copies K.faults) (link_of L.left L.written L.Source.faults L.Sink.faults) (net_of N.faults N.accepted) outside.copiers.items outside.console outside.listener) (outside_of (copier_of K.copies K.faults) (link_of L.left L.written L.Source.faults L.Sink.faults) (net_of N.faults N.accepted) result.1.outside.copiers.items result.1.outside.console result.1.outside.listener) (map (served_of (link_of N.Conn.left N.Conn.written N.Conn.Source.faults N.Conn.Sink.faults)) result.1.links.items) admin result.1.admin result.1.book result.0 }
-    ensures unasked { IsUnasked (map string_bytes words.now) (vec_len outside.copiers) → (result.0 ≡ End.Usage) ⊎ (result.0 ≡ End.Memory) }
+    ensures leaves { Leaves (gate A.faults A.told) (map string_bytes words.now)
+        (shelf F.contents F.faults F.log files.old files.new)
+        (outside_told K.Copier L.Source L.Sink N.Listener outside)
+        (outside_told K.Copier L.Source L.Sink N.Listener result.1.outside)
+        (served_told N.Conn.Source N.Conn.Sink result.1.links.items)
+        admin result.1.admin result.1.book result.0 }
+    ensures unasked { IsUnasked (map string_bytes words.now) (vec_len outside.copiers)
+        → (result.0 ≡ End.Usage) ⊎ (result.0 ≡ End.Memory) }
 {
     let LiveRequest { file, crew } = match asked_live(alloc, words, outside.copiers.len()) {
         Ok(request) => request,
@@ -353,9 +368,19 @@ fn run_for_cause<
 where
     N::Conn: Send + Drop,
     ensures files { F.faults files.old ≤ F.faults files.new }
-    ensures leaves { Leaves (gate A.faults A.told) (map string_bytes words.now) (shelf F.contents F.faults F.log files.old files.new) (outside_of (copier_of K.copies K.faults) (link_of L.left L.written L.Source.faults L.Sink.faults) (net_of N.faults N.accepted) outside.copiers.items outside.console outside.listener) (outside_of (copier_of K.copies K.faults) (link_of L.left L.written L.Source.faults L.Sink.faults) (net_of N.faults N.accepted) result.1.outside.copiers.items result.1.outside.console result.1.outside.listener) (map (served_of (link_of N.Conn.left N.Conn.written N.Conn.Source.faults N.Conn.Sink.faults)) result.1.links.items) admin result.1.admin result.1.book result.0 }
-    ensures unasked { IsUnasked (map string_bytes words.now) (vec_len outside.copiers) → (result.0 ≡ End.Usage) ⊎ (result.0 ≡ End.Memory) }
-    ensures cause { IsLiveCause (gate A.faults A.told) (map string_bytes words.now) (shelf F.contents F.faults F.log files.old files.new) (outside_of (copier_of K.copies K.faults) (link_of L.left L.written L.Source.faults L.Sink.faults) (net_of N.faults N.accepted) outside.copiers.items outside.console outside.listener) (outside_of (copier_of K.copies K.faults) (link_of L.left L.written L.Source.faults L.Sink.faults) (net_of N.faults N.accepted) result.1.outside.copiers.items result.1.outside.console result.1.outside.listener) admin result.1.admin result.1.book result.0 }
+    ensures leaves { Leaves (gate A.faults A.told) (map string_bytes words.now)
+        (shelf F.contents F.faults F.log files.old files.new)
+        (outside_told K.Copier L.Source L.Sink N.Listener outside)
+        (outside_told K.Copier L.Source L.Sink N.Listener result.1.outside)
+        (served_told N.Conn.Source N.Conn.Sink result.1.links.items)
+        admin result.1.admin result.1.book result.0 }
+    ensures unasked { IsUnasked (map string_bytes words.now) (vec_len outside.copiers)
+        → (result.0 ≡ End.Usage) ⊎ (result.0 ≡ End.Memory) }
+    ensures cause { IsLiveCause (gate A.faults A.told) (map string_bytes words.now)
+        (shelf F.contents F.faults F.log files.old files.new)
+        (outside_told K.Copier L.Source L.Sink N.Listener outside)
+        (outside_told K.Copier L.Source L.Sink N.Listener result.1.outside)
+        admin result.1.admin result.1.book result.0 }
 {
     run(rt, alloc, words, files, admin, outside)
 }
@@ -386,27 +411,52 @@ pub fn run_live<
 where
     N::Conn: Send + Drop,
     // How it ended, with what stands behind that end, and its line on the error stream, or a prefix of the line where that fails.
-    ensures ended { (end : End) × (result.status ≡ status_of end) × Leaves (gate A.faults A.told) (map string_bytes words.now) (shelf F.contents F.faults F.log files.old files.new) (outside_of (copier_of K.copies K.faults) (link_of L.left L.written L.Source.faults L.Sink.faults) (net_of N.faults N.accepted) outside.copiers.items outside.console outside.listener) (outside_of (copier_of K.copies K.faults) (link_of L.left L.written L.Source.faults L.Sink.faults) (net_of N.faults N.accepted) result.left.outside.copiers.items result.left.outside.console result.left.outside.listener) (map (served_of (link_of N.Conn.left N.Conn.written N.Conn.Source.faults N.Conn.Sink.faults)) result.left.links.items) admin result.left.admin result.left.book end
+    ensures ended { (end : End) × (result.status ≡ status_of end)
+        × Leaves (gate A.faults A.told) (map string_bytes words.now)
+        (shelf F.contents F.faults F.log files.old files.new)
+        (outside_told K.Copier L.Source L.Sink N.Listener outside)
+        (outside_told K.Copier L.Source L.Sink N.Listener result.left.outside)
+        (served_told N.Conn.Source N.Conn.Sink result.left.links.items)
+        admin result.left.admin result.left.book end
         × IsTold (line_of end) (O.written err.old) (O.written err.new) (O.faults err.old) (O.faults err.new) }
-    ensures statuses { (result.status ≡ 0) ⊎ (result.status ≡ 2) ⊎ (result.status ≡ 3) ⊎ (result.status ≡ 5) ⊎ (result.status ≡ 6) ⊎ (result.status ≡ 7) ⊎ (result.status ≡ 8) ⊎ (result.status ≡ 9) ⊎ (result.status ≡ 10) ⊎ (result.status ≡ 12) }
+    ensures statuses { (result.status ≡ 0) ⊎ (result.status ≡ 2) ⊎ (result.status ≡ 3) ⊎ (result.status ≡ 5)
+        ⊎ (result.status ≡ 6) ⊎ (result.status ≡ 7) ⊎ (result.status ≡ 8) ⊎ (result.status ≡ 9)
+        ⊎ (result.status ≡ 10) ⊎ (result.status ≡ 12) }
     // 2: only where the words are no such command, or ask for too many copiers, and there unless memory runs out.
     ensures usage { result.status ≡ 2 → IsUnasked (map string_bytes words.now) (vec_len outside.copiers) }
-    ensures refuses_words { IsUnasked (map string_bytes words.now) (vec_len outside.copiers) → (result.status ≡ 2) ⊎ (result.status ≡ 9) }
+    ensures refuses_words { IsUnasked (map string_bytes words.now) (vec_len outside.copiers)
+        → (result.status ≡ 2) ⊎ (result.status ≡ 9) }
     // 3: only where the file has a fault, whose line is told, and there unless the words, the files or memory stand in the way.
-    ensures refused { result.status ≡ 3 → (line : List ℕ) × IsLiveRefusal (map string_bytes words.now) (shelf F.contents F.faults F.log files.old files.new) line × IsTold line (O.written err.old) (O.written err.new) (O.faults err.old) (O.faults err.new) }
-    ensures refuses { (asked : LiveAsked) (bytes : List ℕ) (fault : Fault) → live_command (map string_bytes words.now) ≡ Some asked → F.contents files.old asked.file ≡ Some bytes
+    ensures refused { result.status ≡ 3
+        → (line : List ℕ)
+        × IsLiveRefusal (map string_bytes words.now) (shelf F.contents F.faults F.log files.old files.new) line
+        × IsTold line (O.written err.old) (O.written err.new) (O.faults err.old) (O.faults err.new) }
+    ensures refuses { (asked : LiveAsked) (bytes : List ℕ) (fault : Fault)
+        → live_command (map string_bytes words.now) ≡ Some asked
+        → F.contents files.old asked.file ≡ Some bytes
         → IsRefused bytes fault → (result.status ≡ 2) ⊎ (result.status ≡ 3) ⊎ (result.status ≡ 5) ⊎ (result.status ≡ 9) }
     // 5, 6, 7 and 12: only where the count of the files, of the input, of the output or of the listener rose.
     ensures files { result.status ≡ 5 → HasRisen (F.faults files.old) (F.faults files.new) }
-    ensures input { result.status ≡ 6 → HasRisen (L.Source.faults outside.console) (L.Source.faults result.left.outside.console) }
-    ensures output { result.status ≡ 7 → HasRisen (L.Sink.faults outside.console) (L.Sink.faults result.left.outside.console) }
-    ensures listener { result.status ≡ 12 → HasRisen (N.faults outside.listener) (N.faults result.left.outside.listener) }
+    ensures input { result.status ≡ 6
+        → HasRisen (L.Source.faults outside.console) (L.Source.faults result.left.outside.console) }
+    ensures output { result.status ≡ 7
+        → HasRisen (L.Sink.faults outside.console) (L.Sink.faults result.left.outside.console) }
+    ensures listener { result.status ≡ 12 → HasRisen (N.faults outside.listener)
+        (N.faults result.left.outside.listener) }
     // 8: only where the admin's count rose, while the book was begun or behind its settling.
-    ensures admin { result.status ≡ 8 → AdminFailed (gate A.faults A.told) admin result.left.admin result.left.book }
+    ensures admin { result.status ≡ 8 → AdminFailed (gate A.faults A.told)
+        admin result.left.admin result.left.book }
     // 10: only of a session whose input ended inside a request, or has one that can't be framed.
     ensures cut { result.status ≡ 10 → IsCutSession (map string_bytes words.now) (L.left outside.console) }
     // 0 or 9: wherever all that was given is as it should be, and no call outside failed.
-    ensures complete { IsLiveGiven (map string_bytes words.now) (shelf F.contents F.faults F.log files.old files.new) (outside_of (copier_of K.copies K.faults) (link_of L.left L.written L.Source.faults L.Sink.faults) (net_of N.faults N.accepted) outside.copiers.items outside.console outside.listener) → (result.status ≡ 0) ⊎ (result.status ≡ 9) ⊎ HasLiveFailed (gate A.faults A.told) (shelf F.contents F.faults F.log files.old files.new) (outside_of (copier_of K.copies K.faults) (link_of L.left L.written L.Source.faults L.Sink.faults) (net_of N.faults N.accepted) outside.copiers.items outside.console outside.listener) (outside_of (copier_of K.copies K.faults) (link_of L.left L.written L.Source.faults L.Sink.faults) (net_of N.faults N.accepted) result.left.outside.copiers.items result.left.outside.console result.left.outside.listener) admin result.left.admin result.left.book }
+    ensures complete { IsLiveGiven (map string_bytes words.now)
+        (shelf F.contents F.faults F.log files.old files.new)
+        (outside_told K.Copier L.Source L.Sink N.Listener outside)
+        → (result.status ≡ 0) ⊎ (result.status ≡ 9)
+        ⊎ HasLiveFailed (gate A.faults A.told) (shelf F.contents F.faults F.log files.old files.new)
+        (outside_told K.Copier L.Source L.Sink N.Listener outside)
+        (outside_told K.Copier L.Source L.Sink N.Listener result.left.outside)
+        admin result.left.admin result.left.book }
     ensures files_later { F.faults files.old ≤ F.faults files.new }
     ensures err_later { O.faults err.old ≤ O.faults err.new }
 {

@@ -43,7 +43,8 @@ fn changes_text(
 ) -> Result<Vec<u8>, Memory>
     requires before { Belongs case.now before.now }
     requires after { Belongs case.now after.now }
-    ensures { IfOk result (λ text. text.items ≡ reassignment_text case.now.parts (proposals before.now after.now)) }
+    ensures { IfOk result
+        (λ text. text.items ≡ reassignment_text case.now.parts (proposals before.now after.now)) }
 {
     let changes = proposals(alloc, before, after)?;
     reassignment_text(alloc, case, &changes)
@@ -63,7 +64,9 @@ fn plan_text(alloc: Global, loaded: &Loaded, plan: &Plan, trace: bool) -> Result
 }
 
 fn failure_value(alloc: Global, name: &str, measure: &str) -> Result<Value, Memory>
-    ensures { IfOk result (λ v. view v ≡ object (member (codes "failed") (string name.now) (member (codes "measure") (string measure.now) no_members))) }
+    ensures { IfOk result
+        (λ v. view v ≡ object (member (codes "failed") (string name.now)
+        (member (codes "measure") (string measure.now) no_members))) }
 {
     Ok(json!(in alloc; {"failed": name, "measure": measure})?)
 }
@@ -141,7 +144,9 @@ pub fn plan(
     trace: bool,
 ) -> Result<Answer, Memory>
     requires { IsFile file }
-    ensures { IfOk result (λ a. IsPlanned trace (planned_for planning.now.ask (file_seen file)) (goals_of planning.now.ask) a.text.items a.end) }
+    ensures { IfOk result
+        (λ a. IsPlanned trace (planned_for planning.now.ask (file_seen file)) (goals_of planning.now.ask)
+        a.text.items a.end) }
 {
     let loaded = loaded_for(alloc, file, &planning.ask)?;
     planned(alloc, &loaded, &planning.goals, trace)

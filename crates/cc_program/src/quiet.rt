@@ -9,7 +9,7 @@ ghost use Rattle.core_terms.specs.Asked.{goals_of};
 ghost use Rattle.cc_program.specs.Checked.{IsChecked};
 ghost use Rattle.cc_program.specs.Commands.{Asked, AsksSession, HasFile, IsInputKept, asked, command, source_of, with_source};
 ghost use Rattle.cc_program.specs.Complete.{HasFailed, IsWell, IsWellGiven};
-ghost use Rattle.cc_program.specs.Edges.{edge, io_of};
+ghost use Rattle.cc_program.specs.Edges.{edge_told};
 ghost use Rattle.cc_program.specs.Ends.{IsTold, line_of, status_of};
 ghost use Rattle.cc_program.specs.Input.{IsRefused, planned_for};
 ghost use Rattle.cc_program.specs.Runs.{AsksFile, IsRefusal, LoadLogs, Loads, LoadsAll, LoadsFile, Logs, PerformLogs, Performs, Ran, Runs, TellsRefusal};
@@ -57,11 +57,14 @@ fn refused(alloc: Global, refusal: &FileRefusal) -> LoadFault
 // The bytes that a command's cluster is read from.
 fn source<F: Files>(alloc: Global, files: &mut F, request: &Request) -> Result<Vec<u8>, FileFault>
     ensures later { F.faults files.old ≤ F.faults files.new }
-    ensures cause { IsErrOf result FileFault.Failed → HasFile (asked request.now) × HasRisen (F.faults files.old) (F.faults files.new) }
-    ensures bytes { IfOk result (λ v. IfSome (source_of (F.contents files.old) (asked request.now)) (λ told. v.items ≡ told)) }
+    ensures cause { IsErrOf result FileFault.Failed → HasFile (asked request.now)
+        × HasRisen (F.faults files.old) (F.faults files.new) }
+    ensures bytes { IfOk result (λ v. IfSome (source_of (F.contents files.old) (asked request.now))
+        (λ told. v.items ≡ told)) }
     ensures contents { F.contents files.new ≡ F.contents files.old }
     ensures read { OnOk result (F.log files.new ≡ with_source (F.log files.old) (asked request.now)) }
-    ensures failed { OnErr result ((F.log files.new ≡ F.log files.old) ⊎ (F.log files.new ≡ with_source (F.log files.old) (asked request.now))) }
+    ensures failed { OnErr result ((F.log files.new ≡ F.log files.old)
+        ⊎ (F.log files.new ≡ with_source (F.log files.old) (asked request.now))) }
 {
     match request {
         Request::Plan { file, .. } => files.load(alloc, file),
@@ -79,7 +82,8 @@ pub fn load<F: Files>(
     request: &Request,
 ) -> Result<ClusterFile, LoadFault>
     ensures later { F.faults files.old ≤ F.faults files.new }
-    ensures loads { Loads (F.contents files.old) (asked request.now) (F.faults files.old) (F.faults files.new) result }
+    ensures loads { Loads (F.contents files.old) (asked request.now)
+        (F.faults files.old) (F.faults files.new) result }
     ensures file { IfOk result IsFile }
     ensures contents { F.contents files.new ≡ F.contents files.old }
     ensures logs { LoadLogs (F.log files.old) (F.log files.new) (asked request.now) result }
@@ -105,7 +109,8 @@ fn check<F: Files>(
     requires { IsFile file }
     ensures later { F.faults files.old ≤ F.faults files.new }
     ensures cause { IsErrOf result FileFault.Failed → HasRisen (F.faults files.old) (F.faults files.new) }
-    ensures made { IfOk result (λ a. IsChecked (F.contents files.old trace.now) (planned_for planning.now.ask (file_seen file)) (goals_of planning.now.ask) a.text.items a.end) }
+    ensures made { IfOk result (λ a. IsChecked (F.contents files.old trace.now)
+        (planned_for planning.now.ask (file_seen file)) (goals_of planning.now.ask) a.text.items a.end) }
     ensures log { OnOk result (F.log files.new ≡ with_name (F.log files.old) trace.now) }
 {
     let loaded = loaded_for(alloc, file, &planning.ask)?;
@@ -124,9 +129,11 @@ fn perform<F: Files, L: Link>(
     requires { IsFile file }
     ensures files { F.faults files.old ≤ F.faults files.new }
     ensures out { L.Sink.faults console.old ≤ L.Sink.faults console.new }
-    ensures performs { Performs (asked request) (file_seen file) (edge F.contents F.faults files.old files.new (io_of L.left L.Source.faults L.Sink.faults L.written console.old console.new)) result }
+    ensures performs { Performs (asked request) (file_seen file)
+        (edge_told F.Files L.Source L.Sink files.old files.new console.old console.new) result }
     ensures logs { PerformLogs (asked request) (F.log files.old) (F.log files.new) result }
-    ensures input { IsInputKept (asked request) (L.left console.old) (L.left console.new) (L.Source.faults console.old) (L.Source.faults console.new) }
+    ensures input { IsInputKept (asked request) (L.left console.old) (L.left console.new)
+        (L.Source.faults console.old) (L.Source.faults console.new) }
     ensures source { L.Source.faults console.old ≤ L.Source.faults console.new }
 {
     match request {
@@ -157,11 +164,15 @@ fn perform<F: Files, L: Link>(
 fn run<F: Files, L: Link>(alloc: Global, words: &[String], files: &mut F, console: &mut L) -> End
     ensures files { F.faults files.old ≤ F.faults files.new }
     ensures out { L.Sink.faults console.old ≤ L.Sink.faults console.new }
-    ensures runs { Runs (map string_bytes words.now) (edge F.contents F.faults files.old files.new (io_of L.left L.Source.faults L.Sink.faults L.written console.old console.new)) result }
+    ensures runs { Runs (map string_bytes words.now)
+        (edge_told F.Files L.Source L.Sink files.old files.new console.old console.new) result }
     ensures logs { Logs (map string_bytes words.now) (F.log files.old) (F.log files.new) result }
-    ensures alone { (asked : Asked) (bytes : List ℕ) (fault : Fault) → command (map string_bytes words.now) ≡ Some asked → source_of (F.contents files.old) asked ≡ Some bytes
+    ensures alone { (asked : Asked) (bytes : List ℕ) (fault : Fault)
+        → command (map string_bytes words.now) ≡ Some asked
+        → source_of (F.contents files.old) asked ≡ Some bytes
         → IsRefused bytes fault → (F.log files.new ≡ F.log files.old) ⊎ (F.log files.new ≡ with_source (F.log files.old) asked) }
-    ensures input { AsksSession (map string_bytes words.now) ⊎ ((L.left console.new ≡ L.left console.old) × (L.Source.faults console.new ≡ L.Source.faults console.old)) }
+    ensures input { AsksSession (map string_bytes words.now) ⊎ ((L.left console.new ≡ L.left console.old)
+        × (L.Source.faults console.new ≡ L.Source.faults console.old)) }
     ensures source { L.Source.faults console.old ≤ L.Source.faults console.new }
 {
     let request = match read_request(alloc, words) {
@@ -194,42 +205,66 @@ pub fn run_quiet<R: Threads + Sync, F: Files, L: Link, O: Sink>(
     err: &mut O,
 ) -> u8
     // How it ended, with what stands behind that end, and its line on the error stream, or a prefix of the line where that fails.
-    ensures ended { (end : End) × (result ≡ status_of end) × Runs (map string_bytes words.now) (edge F.contents F.faults files.old files.new (io_of L.left L.Source.faults L.Sink.faults L.written console.old console.new)) end × IsTold (line_of end) (O.written err.old) (O.written err.new) (O.faults err.old) (O.faults err.new) }
-    ensures statuses { (result ≡ 0) ⊎ (result ≡ 2) ⊎ (result ≡ 3) ⊎ (result ≡ 4) ⊎ (result ≡ 5) ⊎ (result ≡ 6) ⊎ (result ≡ 7) ⊎ (result ≡ 9) ⊎ (result ≡ 10) ⊎ (result ≡ 11) }
+    ensures ended { (end : End) × (result ≡ status_of end)
+        × Runs (map string_bytes words.now)
+        (edge_told F.Files L.Source L.Sink files.old files.new console.old console.new) end
+        × IsTold (line_of end) (O.written err.old) (O.written err.new) (O.faults err.old) (O.faults err.new) }
+    ensures statuses { (result ≡ 0) ⊎ (result ≡ 2) ⊎ (result ≡ 3) ⊎ (result ≡ 4) ⊎ (result ≡ 5) ⊎ (result ≡ 6)
+        ⊎ (result ≡ 7) ⊎ (result ≡ 9) ⊎ (result ≡ 10) ⊎ (result ≡ 11) }
     // 0: the output grew by a text that the command makes of what its cluster's text means; or the session was served to its end and drained.
-    ensures done { result ≡ 0 → Ran (map string_bytes words.now) (edge F.contents F.faults files.old files.new (io_of L.left L.Source.faults L.Sink.faults L.written console.old console.new)) End.Done }
+    ensures done { result ≡ 0 → Ran (map string_bytes words.now)
+        (edge_told F.Files L.Source L.Sink files.old files.new console.old console.new) End.Done }
     // 11: it grew by the first fault of a trace that isn't good for what the file means.
-    ensures trace { result ≡ 11 → Ran (map string_bytes words.now) (edge F.contents F.faults files.old files.new (io_of L.left L.Source.faults L.Sink.faults L.written console.old console.new)) End.TraceRefused }
+    ensures trace { result ≡ 11 → Ran (map string_bytes words.now)
+        (edge_told F.Files L.Source L.Sink files.old files.new console.old console.new) End.TraceRefused }
     // 6 and 10: a session was served up to a read that failed, or up to where its input is cut.
-    ensures read { result ≡ 6 → Ran (map string_bytes words.now) (edge F.contents F.faults files.old files.new (io_of L.left L.Source.faults L.Sink.faults L.written console.old console.new)) End.ReadFault }
+    ensures read { result ≡ 6 → Ran (map string_bytes words.now)
+        (edge_told F.Files L.Source L.Sink files.old files.new console.old console.new) End.ReadFault }
     ensures input { result ≡ 6 → HasRisen (L.Source.faults console.old) (L.Source.faults console.new) }
-    ensures cut { result ≡ 10 → Ran (map string_bytes words.now) (edge F.contents F.faults files.old files.new (io_of L.left L.Source.faults L.Sink.faults L.written console.old console.new)) End.InputCut }
+    ensures cut { result ≡ 10 → Ran (map string_bytes words.now)
+        (edge_told F.Files L.Source L.Sink files.old files.new console.old console.new) End.InputCut }
     // 7: only where the output's count rose. A prefix of such a text is out, or of a session's replies.
-    ensures prefix { result ≡ 7 → Ran (map string_bytes words.now) (edge F.contents F.faults files.old files.new (io_of L.left L.Source.faults L.Sink.faults L.written console.old console.new)) End.WriteFault }
+    ensures prefix { result ≡ 7 → Ran (map string_bytes words.now)
+        (edge_told F.Files L.Source L.Sink files.old files.new console.old console.new) End.WriteFault }
     ensures output { result ≡ 7 → HasRisen (L.Sink.faults console.old) (L.Sink.faults console.new) }
     // 2: only where the words are no command, and there unless memory runs out.
     ensures usage { result ≡ 2 → command (map string_bytes words.now) ≡ None }
     ensures refuses_words { command (map string_bytes words.now) ≡ None → (result ≡ 2) ⊎ (result ≡ 9) }
     // 3: only where the file, or the text that is made, has a fault, whose line is told, and there unless the files or memory fail.
-    ensures refused { result ≡ 3 → (line : List ℕ) × IsRefusal (map string_bytes words.now) (F.contents files.old) line × IsTold line (O.written err.old) (O.written err.new) (O.faults err.old) (O.faults err.new) }
-    ensures refuses { (asked : Asked) (bytes : List ℕ) (fault : Fault) → command (map string_bytes words.now) ≡ Some asked → source_of (F.contents files.old) asked ≡ Some bytes
+    ensures refused { result ≡ 3
+        → (line : List ℕ) × IsRefusal (map string_bytes words.now) (F.contents files.old) line
+        × IsTold line (O.written err.old) (O.written err.new) (O.faults err.old) (O.faults err.new) }
+    ensures refuses { (asked : Asked) (bytes : List ℕ) (fault : Fault)
+        → command (map string_bytes words.now) ≡ Some asked
+        → source_of (F.contents files.old) asked ≡ Some bytes
         → IsRefused bytes fault → (result ≡ 3) ⊎ (result ≡ 5) ⊎ (result ≡ 9) }
     // 5: only where the files' count rose, of a command that reads its cluster from a file.
-    ensures files { result ≡ 5 → AsksFile (map string_bytes words.now) × HasRisen (F.faults files.old) (F.faults files.new) }
+    ensures files { result ≡ 5 → AsksFile (map string_bytes words.now)
+        × HasRisen (F.faults files.old) (F.faults files.new) }
     // Nothing is written on 2, 3 and 5; on 9 only by a session.
-    ensures silent { (result ≡ 2) ⊎ (result ≡ 3) ⊎ (result ≡ 5) → L.written console.new ≡ L.written console.old }
-    ensures memory { result ≡ 9 → (L.written console.new ≡ L.written console.old) ⊎ AsksSession (map string_bytes words.now) }
+    ensures silent { (result ≡ 2) ⊎ (result ≡ 3) ⊎ (result ≡ 5)
+        → L.written console.new ≡ L.written console.old }
+    ensures memory { result ≡ 9 → (L.written console.new ≡ L.written console.old)
+        ⊎ AsksSession (map string_bytes words.now) }
     // FILE is loaded before TRACE, and nothing else is. 0, 4, 6, 7, 10 and 11: all files of the command, in their order.
-    ensures loaded { (result ≡ 0) ⊎ (result ≡ 4) ⊎ (result ≡ 6) ⊎ (result ≡ 7) ⊎ (result ≡ 10) ⊎ (result ≡ 11) → LoadsAll (map string_bytes words.now) (F.log files.old) (F.log files.new) }
+    ensures loaded { (result ≡ 0) ⊎ (result ≡ 4) ⊎ (result ≡ 6) ⊎ (result ≡ 7) ⊎ (result ≡ 10) ⊎ (result ≡ 11)
+        → LoadsAll (map string_bytes words.now) (F.log files.old) (F.log files.new) }
     // 2: none. 3: the cluster file alone, and no more than that wherever it has a fault.
     ensures unloaded { result ≡ 2 → F.log files.new ≡ F.log files.old }
-    ensures loaded_alone { result ≡ 3 → LoadsFile (map string_bytes words.now) (F.log files.old) (F.log files.new) }
-    ensures alone { (asked : Asked) (bytes : List ℕ) (fault : Fault) → command (map string_bytes words.now) ≡ Some asked → source_of (F.contents files.old) asked ≡ Some bytes
+    ensures loaded_alone { result ≡ 3 → LoadsFile (map string_bytes words.now)
+        (F.log files.old) (F.log files.new) }
+    ensures alone { (asked : Asked) (bytes : List ℕ) (fault : Fault)
+        → command (map string_bytes words.now) ≡ Some asked
+        → source_of (F.contents files.old) asked ≡ Some bytes
         → IsRefused bytes fault → (F.log files.new ≡ F.log files.old) ⊎ (F.log files.new ≡ with_source (F.log files.old) asked) }
     // 0, 4 of a plan, 11 of a trace, or 9: wherever all that was given is as it should be, and no call outside failed.
-    ensures complete { (asked : Asked) → IsWellGiven (map string_bytes words.now) (edge F.contents F.faults files.old files.new (io_of L.left L.Source.faults L.Sink.faults L.written console.old console.new)) asked → IsWell asked result ⊎ (result ≡ 9) ⊎ HasFailed (edge F.contents F.faults files.old files.new (io_of L.left L.Source.faults L.Sink.faults L.written console.old console.new)) }
+    ensures complete { (asked : Asked) → IsWellGiven (map string_bytes words.now)
+        (edge_told F.Files L.Source L.Sink files.old files.new console.old console.new) asked
+        → IsWell asked result ⊎ (result ≡ 9)
+        ⊎ HasFailed (edge_told F.Files L.Source L.Sink files.old files.new console.old console.new) }
     // Only a session reads the input.
-    ensures left_alone { AsksSession (map string_bytes words.now) ⊎ ((L.left console.new ≡ L.left console.old) × (L.Source.faults console.new ≡ L.Source.faults console.old)) }
+    ensures left_alone { AsksSession (map string_bytes words.now) ⊎ ((L.left console.new ≡ L.left console.old)
+        × (L.Source.faults console.new ≡ L.Source.faults console.old)) }
     // Counts never fall.
     ensures files_later { F.faults files.old ≤ F.faults files.new }
     ensures in_later { L.Source.faults console.old ≤ L.Source.faults console.new }

@@ -3,7 +3,7 @@ ghost use Rattle.std.specs.Prelude.{◌≡◌, ◌≢◌, ◌≤◌, ◌⊎◌};
 ghost use Rattle.cluster_json.specs.Ranges.{IsFile};
 ghost use Rattle.cluster_json.specs.Views.{file_seen};
 ghost use Rattle.control_core.specs.Books.{opened};
-ghost use Rattle.cc_program.specs.Edges.{IsSilent, io_of};
+ghost use Rattle.cc_program.specs.Edges.{IsSilent, io_told};
 ghost use Rattle.cc_program.specs.Sessions.{DidSession, drained_end, ended_by};
 ghost use Rattle.cc_program.specs.declared.ends.End.{End};
 
@@ -43,7 +43,7 @@ pub fn ended_by(ended: SessionEnd) -> End
 // Serves a book that was just opened.
 fn serve<L: Link>(alloc: Global, book: &mut Book<MemoryCluster>, console: &mut L) -> End
     requires { book.old ≡ opened book.old.file book.old.admin }
-    ensures did { DidSession book.old.file (io_of L.left L.Source.faults L.Sink.faults L.written console.old console.new) result }
+    ensures did { DidSession book.old.file (io_told L.Source L.Sink console.old console.new) result }
     ensures drained { result ≢ End.NotDrained }
     ensures source { L.Source.faults console.old ≤ L.Source.faults console.new }
     ensures sink { L.Sink.faults console.old ≤ L.Sink.faults console.new }
@@ -59,7 +59,8 @@ fn serve<L: Link>(alloc: Global, book: &mut Book<MemoryCluster>, console: &mut L
 /// unfinished. The replies go to the output one after another.
 pub fn session<L: Link>(alloc: Global, file: ClusterFile, console: &mut L) -> End
     requires { IsFile file }
-    ensures did { ((result ≡ End.Memory) × IsSilent (io_of L.left L.Source.faults L.Sink.faults L.written console.old console.new)) ⊎ DidSession (file_seen file) (io_of L.left L.Source.faults L.Sink.faults L.written console.old console.new) result }
+    ensures did { ((result ≡ End.Memory) × IsSilent (io_told L.Source L.Sink console.old console.new))
+        ⊎ DidSession (file_seen file) (io_told L.Source L.Sink console.old console.new) result }
     ensures drained { result ≢ End.NotDrained }
     ensures source { L.Source.faults console.old ≤ L.Source.faults console.new }
     ensures sink { L.Sink.faults console.old ≤ L.Sink.faults console.new }

@@ -1,8 +1,13 @@
 -- What is told of links, of a listener, and of what answers requests.
-use Rattle.std.specs.Prelude.{ℕ, List, Option}
-use Rattle.mover_rounds.specs.Made.{Copies}
+use Rattle.std.specs.Prelude.{ℕ, List, Option, map}
+use Rattle.cc_base.specs.declared.outside.Sink as sink_trait
+use Rattle.cc_base.specs.declared.outside.Source as source_trait
+use Rattle.cluster_gate.specs.declared.copier.Copier as copier_trait
+use Rattle.mover_rounds.specs.Made.{Copies, copier_of}
 use Rattle.net_links.specs.Links.{AcceptedLink}
+use Rattle.net_links.specs.declared.listener.Listener as listener_trait
 use Rattle.rest_session.specs.declared.session.LinkEnd.{LinkEnd}
+use Rattle.live_service.specs.declared.front.Front.{Front}
 use Rattle.live_service.specs.declared.links.Served.{Served}
 
 -- the bytes that are left to read and those that were written, where they are told, and how many reads and writes have failed
@@ -39,3 +44,22 @@ pub record FrontView : Type 0 where
 
 abbrev pub front_of : {K L N : Type 0} → (K → Copies) → (L → LinkView) → (N → NetView) → K → L → N → FrontView
 front_of copies link net copier console listener = record { copier = copies copier; console = link console; net = net listener }
+
+-- ---- the same by what the traits tell
+
+abbrev pub copies_told : {K : Type 0} → copier_trait.Ghosts K → K → Copies
+copies_told k = copier_of k.copies k.faults
+
+abbrev pub link_told : {L : Type 0} → source_trait.Ghosts L → sink_trait.Ghosts L → L → LinkView
+link_told r w = link_of r.left w.written r.faults w.faults
+
+-- the links that were served, in order
+abbrev pub served_told : {C : Type 0} → source_trait.Ghosts C → sink_trait.Ghosts C → List (Served C) → List ServedView
+served_told r w served = map (served_of (link_told r w)) served
+
+abbrev pub front_told : {K L N C : Type 0} → copier_trait.Ghosts K → source_trait.Ghosts L → sink_trait.Ghosts L → listener_trait.Ghosts N C → Front K L N C → FrontView
+front_told k r w n f = front_of (copies_told k) (link_told r w) (net_of n.faults n.accepted) f.copier f.console f.service.listener
+
+-- the copiers of a front's links
+abbrev pub copiers_told : {K L N C : Type 0} → copier_trait.Ghosts K → Front K L N C → List Copies
+copiers_told k f = map (copies_told k) f.service.copiers.items

@@ -1,11 +1,10 @@
 // The workers that run beside a front.
-ghost use Rattle.std.specs.Prelude.{◌≡◌, ◌+◌, ◌<◌, ◌≤◌, [], map, vec_len, vec_capacity};
+ghost use Rattle.std.specs.Prelude.{◌≡◌, ◌+◌, ◌<◌, ◌≤◌, [], vec_len, vec_capacity};
 ghost use Rattle.live_service.specs.Asked.{links_asked, links_of};
 ghost use Rattle.live_service.specs.Closing.{HasFronted};
 ghost use Rattle.live_service.specs.Fronts.{HasAnswered};
-ghost use Rattle.live_service.specs.Views.{front_of, link_of, net_of, served_of};
+ghost use Rattle.live_service.specs.Views.{copies_told, copiers_told, front_told, served_told};
 ghost use Rattle.live_service.specs.Workers.{HasMovedOnce, HasPlannedOnce, HasRun, HasRunAll};
-ghost use Rattle.mover_rounds.specs.Made.{copier_of};
 ghost use Rattle.mover_workers.specs.Callers.{Belongs, IsLater};
 
 use crate::front::{Front, FrontEnd, serve_front};
@@ -31,7 +30,8 @@ fn move_once<A: Admin, K: Copier, R: Wait>(
     requires own { Belongs turn.now pass }
     ensures own { Belongs turn.now result.0 }
     ensures later { IsLater pass result.0 }
-    ensures moved { HasMovedOnce turn.now.start.file pass result.0 (copier_of K.copies K.faults copier) (copier_of K.copies K.faults result.1) }
+    ensures moved { HasMovedOnce turn.now.start.file pass result.0 (copies_told K.Copier copier)
+        (copies_told K.Copier result.1) }
 {
     let (pass, _) = mover_loop(rt, alloc, turn, pass, &mut copier);
     (pass, copier)
@@ -78,7 +78,12 @@ where
     requires room { links_of serving ≤ vec_capacity front.service.served }
     ensures own { Belongs turn.now result.0 }
     ensures later { IsLater pass result.0 }
-    ensures run { HasRun (λ xs ys. HasFronted (HasAnswered turn.now.start.file (links_asked serving) (front_of (copier_of K.copies K.faults) (link_of L.left L.written L.Source.faults L.Sink.faults) (net_of N.faults N.accepted) front.copier front.console front.service.listener) (front_of (copier_of K.copies K.faults) (link_of L.left L.written L.Source.faults L.Sink.faults) (net_of N.faults N.accepted) result.1.copier result.1.console result.1.service.listener) (map (served_of (link_of N.Conn.left N.Conn.written N.Conn.Source.faults N.Conn.Sink.faults)) result.1.service.served.items) result.2 xs ys)) turn.now.start.file pass result.0 (map (copier_of K.copies K.faults) front.service.copiers.items) (map (copier_of K.copies K.faults) result.1.service.copiers.items) movers }
+    ensures run { HasRun (λ xs ys. HasFronted (HasAnswered turn.now.start.file (links_asked serving)
+        (front_told K.Copier L.Source L.Sink N.Listener front)
+        (front_told K.Copier L.Source L.Sink N.Listener result.1)
+        (served_told N.Conn.Source N.Conn.Sink result.1.service.served.items) result.2 xs ys))
+        turn.now.start.file pass result.0 (copiers_told K.Copier front)
+        (copiers_told K.Copier result.1) movers }
     ensures count { vec_len result.1.service.copiers ≡ vec_len front.service.copiers }
     ensures copiers_room { vec_capacity front.service.copiers ≤ vec_capacity result.1.service.copiers }
 {
@@ -92,11 +97,23 @@ where
         rt,
         move || -> (Pass<Book<A>>, K)
             requires { Belongs turn.now own }
-            ensures { Belongs turn.entry.now result.0 × IsLater own result.0 × HasMovedOnce turn.entry.now.start.file own result.0 (copier_of K.copies K.faults copier) (copier_of K.copies K.faults result.1) }
+            ensures { Belongs turn.entry.now result.0 × IsLater own result.0
+                × HasMovedOnce turn.entry.now.start.file own result.0 (copies_told K.Copier copier)
+                (copies_told K.Copier result.1) }
         { move_once(rt, alloc, turn, own, copier) },
         move || -> (Pass<Book<A>>, Front<K, L, N>, FrontEnd)
-            requires { Belongs turn.now pass × (fewer + links_of serving ≤ vec_len front.service.copiers) × (fewer + links_of serving < pass.parts) × (front.service.served.items ≡ []) × (links_of serving ≤ vec_capacity front.service.served) }
-            ensures { Belongs turn.entry.now result.0 × IsLater pass result.0 × HasRun (λ xs ys. HasFronted (HasAnswered turn.entry.now.start.file (links_asked serving) (front_of (copier_of K.copies K.faults) (link_of L.left L.written L.Source.faults L.Sink.faults) (net_of N.faults N.accepted) front.copier front.console front.service.listener) (front_of (copier_of K.copies K.faults) (link_of L.left L.written L.Source.faults L.Sink.faults) (net_of N.faults N.accepted) result.1.copier result.1.console result.1.service.listener) (map (served_of (link_of N.Conn.left N.Conn.written N.Conn.Source.faults N.Conn.Sink.faults)) result.1.service.served.items) result.2 xs ys)) turn.entry.now.start.file pass result.0 (map (copier_of K.copies K.faults) front.service.copiers.items) (map (copier_of K.copies K.faults) result.1.service.copiers.items) fewer × (vec_len result.1.service.copiers ≡ vec_len front.service.copiers) × (vec_capacity front.service.copiers ≤ vec_capacity result.1.service.copiers) }
+            requires { Belongs turn.now pass × (fewer + links_of serving ≤ vec_len front.service.copiers)
+                × (fewer + links_of serving < pass.parts) × (front.service.served.items ≡ [])
+                × (links_of serving ≤ vec_capacity front.service.served) }
+            ensures { Belongs turn.entry.now result.0 × IsLater pass result.0
+                × HasRun (λ xs ys. HasFronted (HasAnswered turn.entry.now.start.file (links_asked serving)
+                (front_told K.Copier L.Source L.Sink N.Listener front)
+                (front_told K.Copier L.Source L.Sink N.Listener result.1)
+                (served_told N.Conn.Source N.Conn.Sink result.1.service.served.items) result.2 xs ys))
+                turn.entry.now.start.file pass result.0 (copiers_told K.Copier front)
+                (copiers_told K.Copier result.1) fewer
+                × (vec_len result.1.service.copiers ≡ vec_len front.service.copiers)
+                × (vec_capacity front.service.copiers ≤ vec_capacity result.1.service.copiers) }
         { with_movers(rt, alloc, turn, pass, fewer, front, serving) },
     );
     turn.join(&mut pass, back);
@@ -133,7 +150,12 @@ where
     requires room { links_of serving ≤ vec_capacity front.service.served }
     ensures own { Belongs turn.now result.0 }
     ensures later { IsLater pass result.0 }
-    ensures run { HasRunAll (λ xs ys. HasFronted (HasAnswered turn.now.start.file (links_asked serving) (front_of (copier_of K.copies K.faults) (link_of L.left L.written L.Source.faults L.Sink.faults) (net_of N.faults N.accepted) front.copier front.console front.service.listener) (front_of (copier_of K.copies K.faults) (link_of L.left L.written L.Source.faults L.Sink.faults) (net_of N.faults N.accepted) result.1.copier result.1.console result.1.service.listener) (map (served_of (link_of N.Conn.left N.Conn.written N.Conn.Source.faults N.Conn.Sink.faults)) result.1.service.served.items) result.2 xs ys)) turn.now.start.file pass result.0 (map (copier_of K.copies K.faults) front.service.copiers.items) (map (copier_of K.copies K.faults) result.1.service.copiers.items) movers planners }
+    ensures run { HasRunAll (λ xs ys. HasFronted (HasAnswered turn.now.start.file (links_asked serving)
+        (front_told K.Copier L.Source L.Sink N.Listener front)
+        (front_told K.Copier L.Source L.Sink N.Listener result.1)
+        (served_told N.Conn.Source N.Conn.Sink result.1.service.served.items) result.2 xs ys))
+        turn.now.start.file pass result.0 (copiers_told K.Copier front)
+        (copiers_told K.Copier result.1) movers planners }
     ensures count { vec_len result.1.service.copiers ≡ vec_len front.service.copiers }
     ensures copiers_room { vec_capacity front.service.copiers ≤ vec_capacity result.1.service.copiers }
 {
@@ -146,11 +168,22 @@ where
         rt,
         move || -> Pass<Book<A>>
             requires { Belongs turn.now own }
-            ensures { Belongs turn.entry.now result × IsLater own result × HasPlannedOnce turn.entry.now.start.file own result }
+            ensures { Belongs turn.entry.now result × IsLater own result
+                × HasPlannedOnce turn.entry.now.start.file own result }
         { plan_once(rt, alloc, turn, own) },
         move || -> (Pass<Book<A>>, Front<K, L, N>, FrontEnd)
-            requires { Belongs turn.now pass × (movers + links_of serving ≤ vec_len front.service.copiers) × (fewer + (movers + links_of serving) < pass.parts) × (front.service.served.items ≡ []) × (links_of serving ≤ vec_capacity front.service.served) }
-            ensures { Belongs turn.entry.now result.0 × IsLater pass result.0 × HasRunAll (λ xs ys. HasFronted (HasAnswered turn.entry.now.start.file (links_asked serving) (front_of (copier_of K.copies K.faults) (link_of L.left L.written L.Source.faults L.Sink.faults) (net_of N.faults N.accepted) front.copier front.console front.service.listener) (front_of (copier_of K.copies K.faults) (link_of L.left L.written L.Source.faults L.Sink.faults) (net_of N.faults N.accepted) result.1.copier result.1.console result.1.service.listener) (map (served_of (link_of N.Conn.left N.Conn.written N.Conn.Source.faults N.Conn.Sink.faults)) result.1.service.served.items) result.2 xs ys)) turn.entry.now.start.file pass result.0 (map (copier_of K.copies K.faults) front.service.copiers.items) (map (copier_of K.copies K.faults) result.1.service.copiers.items) movers fewer × (vec_len result.1.service.copiers ≡ vec_len front.service.copiers) × (vec_capacity front.service.copiers ≤ vec_capacity result.1.service.copiers) }
+            requires { Belongs turn.now pass × (movers + links_of serving ≤ vec_len front.service.copiers)
+                × (fewer + (movers + links_of serving) < pass.parts) × (front.service.served.items ≡ [])
+                × (links_of serving ≤ vec_capacity front.service.served) }
+            ensures { Belongs turn.entry.now result.0 × IsLater pass result.0
+                × HasRunAll (λ xs ys. HasFronted (HasAnswered turn.entry.now.start.file (links_asked serving)
+                (front_told K.Copier L.Source L.Sink N.Listener front)
+                (front_told K.Copier L.Source L.Sink N.Listener result.1)
+                (served_told N.Conn.Source N.Conn.Sink result.1.service.served.items) result.2 xs ys))
+                turn.entry.now.start.file pass result.0 (copiers_told K.Copier front)
+                (copiers_told K.Copier result.1) movers fewer
+                × (vec_len result.1.service.copiers ≡ vec_len front.service.copiers)
+                × (vec_capacity front.service.copiers ≤ vec_capacity result.1.service.copiers) }
         { with_workers(rt, alloc, turn, pass, movers, fewer, front, serving) },
     );
     turn.join(&mut pass, back);

@@ -1,10 +1,9 @@
 // What answers requests while the workers run.
-ghost use Rattle.std.specs.Prelude.{◌≡◌, ◌≤◌, ◌<◌, [], map, vec_len, vec_capacity};
+ghost use Rattle.std.specs.Prelude.{◌≡◌, ◌≤◌, ◌<◌, [], vec_len, vec_capacity};
 ghost use Rattle.live_service.specs.Asked.{links_asked, links_of};
 ghost use Rattle.live_service.specs.Closing.{HasFronted, IsClosed};
 ghost use Rattle.live_service.specs.Fronts.{HasAnswered};
-ghost use Rattle.live_service.specs.Views.{front_of, link_of, net_of, served_of};
-ghost use Rattle.mover_rounds.specs.Made.{copier_of};
+ghost use Rattle.live_service.specs.Views.{copiers_told, front_told, served_told};
 ghost use Rattle.mover_workers.specs.Callers.{Belongs, IsLater};
 
 use crate::links::{Served, Service, Serving, serve_links, serve_one};
@@ -80,7 +79,11 @@ where
     requires room { links_of serving ≤ vec_capacity front.service.served }
     ensures own { Belongs turn.now result.0 }
     ensures later { IsLater pass result.0 }
-    ensures answered { HasAnswered turn.now.start.file (links_asked serving) (front_of (copier_of K.copies K.faults) (link_of L.left L.written L.Source.faults L.Sink.faults) (net_of N.faults N.accepted) front.copier front.console front.service.listener) (front_of (copier_of K.copies K.faults) (link_of L.left L.written L.Source.faults L.Sink.faults) (net_of N.faults N.accepted) result.1.copier result.1.console result.1.service.listener) (map (served_of (link_of N.Conn.left N.Conn.written N.Conn.Source.faults N.Conn.Sink.faults)) result.1.service.served.items) result.2 (map (copier_of K.copies K.faults) front.service.copiers.items) (map (copier_of K.copies K.faults) result.1.service.copiers.items) pass result.0 }
+    ensures answered { HasAnswered turn.now.start.file (links_asked serving)
+        (front_told K.Copier L.Source L.Sink N.Listener front)
+        (front_told K.Copier L.Source L.Sink N.Listener result.1)
+        (served_told N.Conn.Source N.Conn.Sink result.1.service.served.items) result.2
+        (copiers_told K.Copier front) (copiers_told K.Copier result.1) pass result.0 }
     ensures count { vec_len result.1.service.copiers ≡ vec_len front.service.copiers }
     ensures copiers_room { vec_capacity front.service.copiers ≤ vec_capacity result.1.service.copiers }
 {
@@ -139,7 +142,11 @@ where
     requires room { links_of serving ≤ vec_capacity front.service.served }
     ensures own { Belongs turn.now result.0 }
     ensures later { IsLater pass result.0 }
-    ensures fronted { HasFronted (HasAnswered turn.now.start.file (links_asked serving) (front_of (copier_of K.copies K.faults) (link_of L.left L.written L.Source.faults L.Sink.faults) (net_of N.faults N.accepted) front.copier front.console front.service.listener) (front_of (copier_of K.copies K.faults) (link_of L.left L.written L.Source.faults L.Sink.faults) (net_of N.faults N.accepted) result.1.copier result.1.console result.1.service.listener) (map (served_of (link_of N.Conn.left N.Conn.written N.Conn.Source.faults N.Conn.Sink.faults)) result.1.service.served.items) result.2 (map (copier_of K.copies K.faults) front.service.copiers.items) (map (copier_of K.copies K.faults) result.1.service.copiers.items)) pass result.0 }
+    ensures fronted { HasFronted (HasAnswered turn.now.start.file (links_asked serving)
+        (front_told K.Copier L.Source L.Sink N.Listener front)
+        (front_told K.Copier L.Source L.Sink N.Listener result.1)
+        (served_told N.Conn.Source N.Conn.Sink result.1.service.served.items) result.2
+        (copiers_told K.Copier front) (copiers_told K.Copier result.1)) pass result.0 }
     ensures count { vec_len result.1.service.copiers ≡ vec_len front.service.copiers }
     ensures copiers_room { vec_capacity front.service.copiers ≤ vec_capacity result.1.service.copiers }
 {

@@ -1,7 +1,7 @@
 // The requests of a link over a shared book.
 ghost use Rattle.std.specs.Prelude.{◌≡◌, ◌≤◌};
 ghost use Rattle.cc_base.specs.Outside.{HasRisen};
-ghost use Rattle.mover_rounds.specs.Made.{copier_of};
+ghost use Rattle.live_service.specs.Views.{copies_told};
 ghost use Rattle.mover_workers.specs.Callers.{Belongs, IsLater, known_by_pass};
 ghost use Rattle.rest_session.specs.Answered.{HasServed};
 
@@ -27,11 +27,16 @@ pub fn serve_link<A: Admin, K: Copier, L: Link, R: Wait>(
     requires own { Belongs turn.now pass }
     ensures own { Belongs turn.now result.0 }
     ensures later { IsLater pass result.0 }
-    ensures served { HasServed (known_by_pass turn.now.start.file pass) (known_by_pass turn.now.start.file result.0) (copier_of K.copies K.faults copier.old) (copier_of K.copies K.faults copier.new) (L.left link.old) (L.written link.old) (L.written link.new) result.1 }
+    ensures served { HasServed (known_by_pass turn.now.start.file pass)
+        (known_by_pass turn.now.start.file result.0) (copies_told K.Copier copier.old)
+        (copies_told K.Copier copier.new) (L.left link.old) (L.written link.old) (L.written link.new)
+        result.1 }
     ensures source { L.Source.faults link.old ≤ L.Source.faults link.new }
     ensures sink { L.Sink.faults link.old ≤ L.Sink.faults link.new }
-    ensures read_fault { result.1 ≡ LinkEnd.ReadFault → HasRisen (L.Source.faults link.old) (L.Source.faults link.new) }
-    ensures write_fault { result.1 ≡ LinkEnd.WriteFault → HasRisen (L.Sink.faults link.old) (L.Sink.faults link.new) }
+    ensures read_fault { result.1 ≡ LinkEnd.ReadFault
+        → HasRisen (L.Source.faults link.old) (L.Source.faults link.new) }
+    ensures write_fault { result.1 ≡ LinkEnd.WriteFault
+        → HasRisen (L.Sink.faults link.old) (L.Sink.faults link.new) }
 {
     let mut caller = Caller::new(rt, turn, pass);
     let end = serve(alloc, &mut caller, copier, link);

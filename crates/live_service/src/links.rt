@@ -2,8 +2,7 @@
 ghost use Rattle.std.specs.Prelude.{◌≡◌, ◌≤◌, ◌<◌, Err, Ok, OnOk, [], map, vec_len, vec_capacity};
 ghost use Rattle.cc_base.specs.Outside.{HasCause};
 ghost use Rattle.live_service.specs.Fronts.{HasLinkCause, HasServedLinks};
-ghost use Rattle.live_service.specs.Views.{link_of, served_of};
-ghost use Rattle.mover_rounds.specs.Made.{copier_of};
+ghost use Rattle.live_service.specs.Views.{copies_told, link_told, served_told};
 ghost use Rattle.mover_workers.specs.Callers.{Belongs, IsLater, known_by_pass};
 ghost use Rattle.rest_session.specs.Answered.{HasServed};
 
@@ -56,8 +55,12 @@ pub fn serve_one<A: Admin, K: Copier, C: Link, R: Wait>(
     requires own { Belongs turn.now pass }
     ensures own { Belongs turn.now result.0 }
     ensures later { IsLater pass result.0 }
-    ensures served { HasServed (known_by_pass turn.now.start.file pass) (known_by_pass turn.now.start.file result.0) (copier_of K.copies K.faults copier) (copier_of K.copies K.faults result.1) (C.left link) (C.written link) (C.written result.2.link) result.2.end }
-    ensures cause { HasLinkCause (link_of C.left C.written C.Source.faults C.Sink.faults link) (link_of C.left C.written C.Source.faults C.Sink.faults result.2.link) result.2.end }
+    ensures served { HasServed (known_by_pass turn.now.start.file pass)
+        (known_by_pass turn.now.start.file result.0) (copies_told K.Copier copier)
+        (copies_told K.Copier result.1)
+        (C.left link) (C.written link) (C.written result.2.link) result.2.end }
+    ensures cause { HasLinkCause (link_told C.Source C.Sink link) (link_told C.Source C.Sink result.2.link)
+        result.2.end }
 {
     let (pass, end) = serve_link(rt, alloc, turn, pass, &mut copier, &mut link);
     (pass, copier, Served { link, end })
@@ -87,7 +90,10 @@ where
     requires room { links ≤ vec_capacity service.served }
     ensures own { Belongs turn.now result.0 }
     ensures later { IsLater pass result.0 }
-    ensures served { HasServedLinks turn.now.start.file (N.accepted service.listener) (N.accepted result.1.listener) (map (copier_of K.copies K.faults) service.copiers.items) (map (copier_of K.copies K.faults) result.1.copiers.items) (map (served_of (link_of N.Conn.left N.Conn.written N.Conn.Source.faults N.Conn.Sink.faults)) result.1.served.items) pass result.0 }
+    ensures served { HasServedLinks turn.now.start.file (N.accepted service.listener)
+        (N.accepted result.1.listener) (map (copies_told K.Copier) service.copiers.items)
+        (map (copies_told K.Copier) result.1.copiers.items)
+        (served_told N.Conn.Source N.Conn.Sink result.1.served.items) pass result.0 }
     ensures cause { HasCause (N.faults service.listener) (N.faults result.1.listener) result.2 }
     ensures whole { OnOk result.2 (vec_len result.1.served ≡ links) }
     ensures most { vec_len result.1.served ≤ links }
@@ -107,14 +113,28 @@ where
     let ((mut pass, mut service, end), (back, copier, served)) = join(
         rt,
         move || -> (Pass<Book<A>>, Service<K, N>, Result<(), Failed>)
-            requires { Belongs turn.now pass × (fewer ≤ vec_len service.copiers) × (fewer < pass.parts) × (service.served.items ≡ []) × (fewer ≤ vec_capacity service.served) }
-            ensures { Belongs turn.entry.now result.0 × IsLater pass result.0 × HasServedLinks turn.entry.now.start.file (N.accepted service.listener) (N.accepted result.1.listener) (map (copier_of K.copies K.faults) service.copiers.items) (map (copier_of K.copies K.faults) result.1.copiers.items) (map (served_of (link_of N.Conn.left N.Conn.written N.Conn.Source.faults N.Conn.Sink.faults)) result.1.served.items) pass result.0
-                × HasCause (N.faults service.listener) (N.faults result.1.listener) result.2 × OnOk result.2 (vec_len result.1.served ≡ fewer) × (vec_len result.1.served ≤ fewer) × (vec_len result.1.copiers ≡ vec_len service.copiers) × (vec_capacity service.copiers ≤ vec_capacity result.1.copiers) × (vec_capacity service.served ≤ vec_capacity result.1.served) }
+            requires { Belongs turn.now pass × (fewer ≤ vec_len service.copiers) × (fewer < pass.parts)
+                × (service.served.items ≡ []) × (fewer ≤ vec_capacity service.served) }
+            ensures { Belongs turn.entry.now result.0 × IsLater pass result.0
+                × HasServedLinks turn.entry.now.start.file (N.accepted service.listener)
+                (N.accepted result.1.listener) (map (copies_told K.Copier) service.copiers.items)
+                (map (copies_told K.Copier) result.1.copiers.items)
+                (served_told N.Conn.Source N.Conn.Sink result.1.served.items) pass result.0
+                × HasCause (N.faults service.listener) (N.faults result.1.listener) result.2
+                × OnOk result.2 (vec_len result.1.served ≡ fewer) × (vec_len result.1.served ≤ fewer)
+                × (vec_len result.1.copiers ≡ vec_len service.copiers)
+                × (vec_capacity service.copiers ≤ vec_capacity result.1.copiers)
+                × (vec_capacity service.served ≤ vec_capacity result.1.served) }
         { accept_links(rt, alloc, turn, pass, service, fewer) },
         move || -> (Pass<Book<A>>, K, Served<N::Conn>)
             requires { Belongs turn.now own }
-            ensures { Belongs turn.entry.now result.0 × IsLater own result.0 × HasServed (known_by_pass turn.entry.now.start.file own) (known_by_pass turn.entry.now.start.file result.0) (copier_of K.copies K.faults copier) (copier_of K.copies K.faults result.1) (N.Conn.left link) (N.Conn.written link) (N.Conn.written result.2.link) result.2.end
-                × HasLinkCause (link_of N.Conn.left N.Conn.written N.Conn.Source.faults N.Conn.Sink.faults link) (link_of N.Conn.left N.Conn.written N.Conn.Source.faults N.Conn.Sink.faults result.2.link) result.2.end }
+            ensures { Belongs turn.entry.now result.0 × IsLater own result.0
+                × HasServed (known_by_pass turn.entry.now.start.file own)
+                (known_by_pass turn.entry.now.start.file result.0) (copies_told K.Copier copier)
+                (copies_told K.Copier result.1)
+                (N.Conn.left link) (N.Conn.written link) (N.Conn.written result.2.link) result.2.end
+                × HasLinkCause (link_told N.Conn.Source N.Conn.Sink link)
+                (link_told N.Conn.Source N.Conn.Sink result.2.link) result.2.end }
         { serve_one(rt, alloc, turn, own, copier, link) },
     );
     turn.join(&mut pass, back);
@@ -155,7 +175,10 @@ where
     requires room { serving.now.links ≤ vec_capacity service.served }
     ensures own { Belongs turn.now result.0 }
     ensures later { IsLater pass result.0 }
-    ensures served { HasServedLinks turn.now.start.file (N.accepted service.listener) (N.accepted result.1.listener) (map (copier_of K.copies K.faults) service.copiers.items) (map (copier_of K.copies K.faults) result.1.copiers.items) (map (served_of (link_of N.Conn.left N.Conn.written N.Conn.Source.faults N.Conn.Sink.faults)) result.1.served.items) pass result.0 }
+    ensures served { HasServedLinks turn.now.start.file (N.accepted service.listener)
+        (N.accepted result.1.listener) (map (copies_told K.Copier) service.copiers.items)
+        (map (copies_told K.Copier) result.1.copiers.items)
+        (served_told N.Conn.Source N.Conn.Sink result.1.served.items) pass result.0 }
     ensures cause { HasCause (N.faults service.listener) (N.faults result.1.listener) result.2 }
     ensures whole { OnOk result.2 (vec_len result.1.served ≡ serving.now.links) }
     ensures most { vec_len result.1.served ≤ serving.now.links }

@@ -1,5 +1,5 @@
 // A live service, whole.
-ghost use Rattle.std.specs.Prelude.{◌≡◌, ◌≤◌, ◌+◌, ◌<◌, ◌⊎◌, ℕ, [], map, vec_len, vec_capacity, IfOk, IfErr, IfSome};
+ghost use Rattle.std.specs.Prelude.{◌≡◌, ◌≤◌, ◌+◌, ◌<◌, ◌⊎◌, ℕ, [], vec_len, vec_capacity, IfOk, IfErr, IfSome};
 ghost use Rattle.control_core.specs.Books.{state_of};
 ghost use Rattle.core_laws.specs.Alone.{IsDone};
 ghost use Rattle.core_terms.specs.History.{AreLegal};
@@ -8,8 +8,7 @@ ghost use Rattle.live_service.specs.Asked.{links_asked, links_of};
 ghost use Rattle.live_service.specs.Closing.{HasFronted};
 ghost use Rattle.live_service.specs.Fronts.{HasAnswered};
 ghost use Rattle.live_service.specs.Live.{IsLive, IsShared};
-ghost use Rattle.live_service.specs.Views.{front_of, link_of, net_of, served_of};
-ghost use Rattle.mover_rounds.specs.Made.{copier_of};
+ghost use Rattle.live_service.specs.Views.{copiers_told, front_told, served_told};
 
 use crate::crew::with_workers;
 use crate::front::{Front, FrontEnd};
@@ -58,9 +57,14 @@ where
     requires few { planners + (movers + links_of serving) < 1048576 }
     requires none { front.service.served.items ≡ [] }
     requires room { links_of serving ≤ vec_capacity front.service.served }
-    ensures shared { IfOk result (λ r. IsShared (λ xs ys. HasFronted (HasAnswered book.file (links_asked serving) (front_of (copier_of K.copies K.faults) (link_of L.left L.written L.Source.faults L.Sink.faults) (net_of N.faults N.accepted) front.copier front.console front.service.listener) (front_of (copier_of K.copies K.faults) (link_of L.left L.written L.Source.faults L.Sink.faults) (net_of N.faults N.accepted) r.1.copier r.1.console r.1.service.listener) (map (served_of (link_of N.Conn.left N.Conn.written N.Conn.Source.faults N.Conn.Sink.faults)) r.1.service.served.items) r.2 xs ys)) book r.0 (map (copier_of K.copies K.faults) front.service.copiers.items) (map (copier_of K.copies K.faults) r.1.service.copiers.items) movers planners) }
+    ensures shared { IfOk result (λ r. IsShared (λ xs ys. HasFronted (HasAnswered book.file
+        (links_asked serving) (front_told K.Copier L.Source L.Sink N.Listener front)
+        (front_told K.Copier L.Source L.Sink N.Listener r.1)
+        (served_told N.Conn.Source N.Conn.Sink r.1.service.served.items) r.2 xs ys)) book r.0
+        (copiers_told K.Copier front) (copiers_told K.Copier r.1) movers planners) }
     ensures count { IfOk result (λ r. vec_len r.1.service.copiers ≡ vec_len front.service.copiers) }
-    ensures copiers_room { IfOk result (λ r. vec_capacity front.service.copiers ≤ vec_capacity r.1.service.copiers) }
+    ensures copiers_room { IfOk result
+        (λ r. vec_capacity front.service.copiers ≤ vec_capacity r.1.service.copiers) }
     ensures handed_back { IfErr result (λ e. (e.book ≡ book) × (e.front ≡ front)) }
 {
     match Turn::new(alloc, book) {
@@ -118,14 +122,21 @@ where
     requires few { planners + (movers + links_of serving) < 1048576 }
     requires none { front.service.served.items ≡ [] }
     requires room { links_of serving ≤ vec_capacity front.service.served }
-    ensures live { IfOk result (λ r. IsLive A.faults (links_asked serving) book r.book (map (copier_of K.copies K.faults) front.service.copiers.items) (map (copier_of K.copies K.faults) r.front.service.copiers.items) movers planners (front_of (copier_of K.copies K.faults) (link_of L.left L.written L.Source.faults L.Sink.faults) (net_of N.faults N.accepted) front.copier front.console front.service.listener) (front_of (copier_of K.copies K.faults) (link_of L.left L.written L.Source.faults L.Sink.faults) (net_of N.faults N.accepted) r.front.copier r.front.console r.front.service.listener) (map (served_of (link_of N.Conn.left N.Conn.written N.Conn.Source.faults N.Conn.Sink.faults)) r.front.service.served.items) r.end r.drain) }
+    ensures live { IfOk result (λ r. IsLive A.faults (links_asked serving) book r.book
+        (copiers_told K.Copier front) (copiers_told K.Copier r.front) movers planners
+        (front_told K.Copier L.Source L.Sink N.Listener front)
+        (front_told K.Copier L.Source L.Sink N.Listener r.front)
+        (served_told N.Conn.Source N.Conn.Sink r.front.service.served.items) r.end r.drain) }
     ensures file { IfOk result (λ r. r.book.file ≡ book.file) }
     ensures legal { IfOk result (λ r. AreLegal r.book.journal) }
-    ensures lists { IfOk result (λ r. IfSome (A.told r.book.admin) (λ lists. lists ≡ lists_now (state_of r.book).desk.exec)) }
+    ensures lists { IfOk result (λ r. IfSome (A.told r.book.admin)
+        (λ lists. lists ≡ lists_now (state_of r.book).desk.exec)) }
     ensures drained { IfOk result (λ r. r.drain ≡ DrainEnd.Drained → IsDone (state_of r.book).desk) }
-    ensures late { IfOk result (λ r. (number : ℕ) → r.drain ≡ DrainEnd.AdminFault number → (1 ≤ r.book.late) ⊎ (18446744073709551615 ≤ r.book.failures)) }
+    ensures late { IfOk result (λ r. (number : ℕ) → r.drain ≡ DrainEnd.AdminFault number → (1 ≤ r.book.late)
+        ⊎ (18446744073709551615 ≤ r.book.failures)) }
     ensures count { IfOk result (λ r. vec_len r.front.service.copiers ≡ vec_len front.service.copiers) }
-    ensures copiers_room { IfOk result (λ r. vec_capacity front.service.copiers ≤ vec_capacity r.front.service.copiers) }
+    ensures copiers_room { IfOk result
+        (λ r. vec_capacity front.service.copiers ≤ vec_capacity r.front.service.copiers) }
     ensures handed_back { IfErr result (λ e. (e.book ≡ book) × (e.front ≡ front)) }
 {
     let (mut book, mut front, end) = share(rt, alloc, book, movers, planners, front, serving)?;
