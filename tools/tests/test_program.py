@@ -58,6 +58,16 @@ class Program(unittest.TestCase):
         self.assertEqual((code, [it["replicas"] for it in json.loads(out)["partitions"]]), (0, after))
         return code
 
+    def test_plans_are_measured_with_their_checks(self):
+        kinds = ["whole", "lost", "added", "tenth"]
+        for goals in ([], ["--goals", "RackAwareGoal"]):
+            words = [ROOT / "tools/measure-plans", "--sizes", "12x120", "--seeds", "1", *goals]
+            ran = subprocess.run(words, stdin=subprocess.DEVNULL, capture_output=True, text=True, timeout=120)
+            self.assertEqual((ran.returncode, ran.stderr), (0, ""))
+            rows = [line.split() for line in ran.stdout.splitlines()[1:]]
+            self.assertEqual([row[:3] for row in rows], [["12x120", kind, "1"] for kind in kinds])
+            self.assertTrue(all(int(row[3]) > 0 for row in rows if row[1] == "lost"))
+
     def test_plans_of_random_clusters(self):
         with tempfile.TemporaryDirectory() as room:
             codes = []
