@@ -115,7 +115,7 @@ class Documents(unittest.TestCase):
         settings = set(re.findall(r'"([a-z]+(?:\.[a-z]+)+)"', (ROOT / "crates/cluster_json/src/settings.rt").read_text()))
         self.assertEqual(set(re.findall(r"^\| `([a-z]+(?:\.[a-z]+)+)` \|", page, re.M)), settings)
         refusals = page.partition("## Refusals\n")[2].partition("\n## ")[0]
-        texts = (ROOT / "crates/cluster_json/specs/Texts.antt").read_text()
+        texts = "".join((ROOT / f"crates/{crate}/specs/Texts.antt").read_text() for crate in ("cluster_json", "plan_terms"))
         known = set(re.findall(r'^(?:case|fault)_text .*codes "(\w+)', texts, re.M)) - {"Memory"}
         self.assertEqual(set(re.findall(r"^\| `(\w+)", refusals, re.M)), known)
         kinds = set(re.findall(r'^fault_name .*codes "(\w+)"', (ROOT / "crates/plan_check/specs/Names.antt").read_text(), re.M))

@@ -389,7 +389,7 @@ class Script(unittest.TestCase):
 
     def test_words_are_refused_only_where_the_program_refuses_them(self):
         """Each command line that the crate of the words has in its tests: one that means a command goes to the program."""
-        text = (ROOT / "crates/command_words/src/tests.rt").read_text()
+        text = (ROOT / "crates/words_tests/src/commands.rt").read_text()
         text = text[text.index("const LINES") : text.index("];", text.index("const LINES"))]
         lines = re.findall(r'\(\s*"((?:[^"])*)",\s*"([^"]*)",?\s*\)', text)
         self.assertGreater(len(lines), 80)

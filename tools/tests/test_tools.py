@@ -313,7 +313,7 @@ class Tools(unittest.TestCase):
 
         code, out, err = self.tool("executions")
         self.assertEqual((code, err), (0, ""))
-        self.assertEqual(squeezed(out), squeezed((ROOT / "crates/executor_core/src/tests/random.rt").read_text()))
+        self.assertEqual(squeezed(out), squeezed((ROOT / "crates/executor_tests/src/random.rt").read_text()))
 
     def test_manual_and_completion_are_those_of_the_help(self):
         self.assertEqual(self.tool("make-manual", "--check"), (0, "", ""))

@@ -1,14 +1,14 @@
 // The quantities of brokers.
 ghost use Rattle.goal_terms.specs.Limits.{SmallLoads, SmallWeights};
-ghost use Rattle.goal_terms.specs.PerBroker.{id_at};
 ghost use Rattle.goal_terms.specs.Quantity.{Weights, weight_of, quantity, total, replica_weights, leader_weights, load_weights, potential_out_weights, leader_in_weights};
 ghost use Rattle.plan_terms.specs.Belongs.{IsBookOf};
-ghost use Rattle.plan_terms.specs.Cluster.{Cluster};
+ghost use Rattle.plan_terms.specs.Cluster.{Cluster, id_at};
 ghost use Rattle.plan_terms.specs.declared.cluster.Part.{Part};
 ghost use Rattle.std.specs.Prelude.{◌≡◌, ◌<◌, length, if◌then◌else◌};
 
 use crate::names::Resource;
-use load_model::{Case, LoadBook, Part};
+use load_model::{Case, LoadBook};
+use plan_terms::{Part, resources};
 use std::marker::PhantomData;
 
 /// A quantity of brokers: what each place of a partition's list adds to that of its broker.
@@ -24,7 +24,9 @@ pub trait Amount {
         requires made { made_for self.now case.now }
         requires belongs { IsBookOf case.now book.now }
         requires broker { broker < length case.now.brokers }
-        ensures { result ≡ quantity (weights self.now) case.now.parts (id_at case.now.brokers broker) book.now.lists };
+        ensures { result
+            ≡ quantity (weights self.now) case.now.parts (id_at case.now.brokers broker)
+            book.now.lists };
 
     /// What all brokers carry together, lost ones too.
     fn total(&self, case: &Case, book: &LoadBook) -> u128
@@ -175,7 +177,7 @@ impl Amount for PotentialOut {
     }
 
     fn weight(&self, part: &Part, _leads: bool) -> u64 {
-        part.loads.lead[2]
+        part.loads.lead[resources::NW_OUT]
     }
 
     ghost small_weights = { λ _ p h. potential_out-small p h };
@@ -208,7 +210,11 @@ impl Amount for LeaderIn {
     }
 
     fn weight(&self, part: &Part, leads: bool) -> u64 {
-        if leads { part.loads.lead[1] } else { 0 }
+        if leads {
+            part.loads.lead[resources::NW_IN]
+        } else {
+            0
+        }
     }
 
     ghost small_weights = { λ _ p h. leader_in-small p h };

@@ -5,7 +5,8 @@ ghost use Rattle.plan_terms.specs.Cluster.{Cluster};
 ghost use Rattle.plan_terms.specs.Faults.{IsCase};
 ghost use Rattle.std.specs.Prelude.{◌≡◌, ◌<◌, ◌≤◌, ◌^◌};
 
-use load_model::{Broker, Case};
+use load_model::Case;
+use plan_terms::Broker;
 
 /// The bounds of one broker: the least and the greatest that its quantity may be, times the scale.
 #[derive(Clone, Copy)]

@@ -7,7 +7,8 @@ ghost use Rattle.std.specs.Prelude.{◌≡◌, ◌*◌, ◌<◌, ◌≤◌, ◌^
 
 use crate::band::{Band, Edges, NewBand};
 use crate::names::Resource;
-use load_model::{Broker, Case, Options, Ratio};
+use load_model::Case;
+use plan_terms::{Broker, Options, Ratio};
 use std::marker::PhantomData;
 
 // The threshold of a resource, for its use.
@@ -81,7 +82,8 @@ impl<R: Resource> Band for WithinCapacity<R> {
         }
     }
 
-    ghost small_bounds = { λ _ c made _. within_capacity-small (ratio_at c.options.limit R.resource) R.resource made.small };
+    ghost small_bounds = { λ _ c made _. within_capacity-small (ratio_at c.options.limit R.resource)
+        R.resource made.small };
 }
 
 impl<R: Resource> NewBand for WithinCapacity<R> {

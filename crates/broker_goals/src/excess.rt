@@ -3,7 +3,8 @@ ghost use Rattle.goal_terms.specs.Bands.{units_of};
 ghost use Rattle.goal_terms.specs.Heats.{bound_heat, broker_heat};
 ghost use Rattle.goal_terms.specs.LeastLeaders.{leading_brokers};
 ghost use Rattle.goal_terms.specs.Limits.{SmallCap};
-ghost use Rattle.goal_terms.specs.PerBroker.{unit_brokers, bound_excess, broker_excess, at_id, id_at};
+ghost use Rattle.plan_terms.specs.Cluster.{id_at};
+ghost use Rattle.goal_terms.specs.PerBroker.{unit_brokers, bound_excess, broker_excess, at_id};
 ghost use Rattle.goal_terms.specs.Quantity.{quantity, total};
 ghost use Rattle.goal_terms.specs.Rooms.{unscaled, bound_room, broker_room};
 ghost use Rattle.plan_terms.specs.Belongs.{IsBookOf};
@@ -13,9 +14,9 @@ ghost use Rattle.std.specs.Prelude.{◌≡◌, ◌*◌, ◌<◌, ◌≤◌, ◌^
 
 use crate::amount::Amount;
 use crate::band::Band;
-use goal_terms::Room;
-use load_model::{Broker, Case, LoadBook};
-use move_actions::Heat;
+use goal_terms::{Heat, Room};
+use load_model::{Case, LoadBook};
+use plan_terms::Broker;
 
 /// How many brokers aren't lost.
 pub fn unit_count(brokers: &[Broker]) -> usize
@@ -28,7 +29,8 @@ pub fn unit_count(brokers: &[Broker]) -> usize
 pub fn unit_place(brokers: &[Broker], unit: usize) -> usize
     requires { unit < length (unit_brokers brokers.now) }
     ensures within { result < length brokers.now }
-    ensures value { (f : Broker → ℕ) → get_or (map f (unit_brokers brokers.now)) unit 0 ≡ get_or (map f brokers.now) result 0 }
+    ensures value { (f : Broker → ℕ)
+        → get_or (map f (unit_brokers brokers.now)) unit 0 ≡ get_or (map f brokers.now) result 0 }
 {
     let mut left = unit;
     for (place, broker) in brokers.iter().enumerate() {
@@ -66,7 +68,8 @@ pub fn leading_count(brokers: &[Broker]) -> usize
 pub fn leading_place(brokers: &[Broker], unit: usize) -> usize
     requires { unit < length (leading_brokers brokers.now) }
     ensures within { result < length brokers.now }
-    ensures value { (f : Broker → ℕ) → get_or (map f (leading_brokers brokers.now)) unit 0 ≡ get_or (map f brokers.now) result 0 }
+    ensures value { (f : Broker → ℕ)
+        → get_or (map f (leading_brokers brokers.now)) unit 0 ≡ get_or (map f brokers.now) result 0 }
 {
     let mut left = unit;
     for (place, broker) in brokers.iter().enumerate() {
@@ -94,7 +97,9 @@ pub fn amount_at<A: Amount>(kind: &A, case: &Case, book: &LoadBook, broker: usiz
     requires made { A.made_for kind.now case.now }
     requires belongs { IsBookOf case.now book.now }
     requires broker { broker < length case.now.brokers }
-    ensures value { result ≡ quantity (A.weights kind.now) case.now.parts (id_at case.now.brokers broker) book.now.lists }
+    ensures value { result
+        ≡ quantity (A.weights kind.now) case.now.parts (id_at case.now.brokers broker)
+        book.now.lists }
     ensures small { result < 2 ^ 49 }
 {
     let _brokers = case.brokers();
@@ -152,7 +157,11 @@ pub fn excess_at_place<A: Amount, B: Band>(
     requires band { B.made_for band.now case.now }
     requires belongs { IsBookOf case.now book.now }
     requires place { place < length case.now.brokers }
-    ensures { result ≡ get_or (map (broker_excess (A.weights kind.now) (B.bounds band.now case.now) case.now book.now.lists) case.now.brokers) place 0 }
+    ensures { result
+        ≡ get_or
+        (map
+        (broker_excess (A.weights kind.now) (B.bounds band.now case.now) case.now
+        book.now.lists) case.now.brokers) place 0 }
 {
     let all = total_of(kind, case, book);
     let amount = amount_at(kind, case, book, place);
@@ -165,7 +174,9 @@ pub fn unit_excess<B: Band>(band: &B, case: &Case, all: u128, amount: u128, plac
     requires all { all < 2 ^ 49 }
     requires amount { amount < 2 ^ 49 }
     requires place { place < length case.now.brokers }
-    ensures value { result ≡ at_id (bound_excess (B.bounds band.now case.now) all amount) (unit_brokers case.now.brokers) (id_at case.now.brokers place) }
+    ensures value { result
+        ≡ at_id (bound_excess (B.bounds band.now case.now) all amount)
+        (unit_brokers case.now.brokers) (id_at case.now.brokers place) }
     ensures small { result ≤ 2 ^ 111 }
 {
     let _brokers = case.brokers();
@@ -208,7 +219,9 @@ pub fn heat_at_place<A: Amount, B: Band>(
     requires band { B.made_for band.now case.now }
     requires belongs { IsBookOf case.now book.now }
     requires place { place < length case.now.brokers }
-    ensures { result ≡ broker_heat (A.weights kind.now) (B.bounds band.now case.now) case.now book.now.lists (id_at case.now.brokers place) }
+    ensures { result
+        ≡ broker_heat (A.weights kind.now) (B.bounds band.now case.now) case.now book.now.lists
+        (id_at case.now.brokers place) }
 {
     let _brokers = case.brokers();
     let broker = broker_at(case, place);
@@ -264,7 +277,9 @@ pub fn room_at_place<A: Amount, B: Band>(
     requires belongs { IsBookOf case.now book.now }
     requires all { all ≡ total (A.weights kind.now) case.now.parts book.now.lists }
     requires place { place < length case.now.brokers }
-    ensures { result ≡ broker_room (A.weights kind.now) (B.bounds band.now case.now) case.now book.now.lists (id_at case.now.brokers place) }
+    ensures { result
+        ≡ broker_room (A.weights kind.now) (B.bounds band.now case.now) case.now book.now.lists
+        (id_at case.now.brokers place) }
 {
     let _brokers = case.brokers();
     let broker = broker_at(case, place);

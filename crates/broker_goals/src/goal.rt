@@ -1,6 +1,7 @@
 // Goals over brokers: the two brokers of an action decide what it does.
 ghost use Rattle.goal_terms.specs.Heats.{broker_heat};
-ghost use Rattle.goal_terms.specs.PerBroker.{broker_excess, per_broker, id_at, unit_brokers};
+ghost use Rattle.plan_terms.specs.Cluster.{id_at};
+ghost use Rattle.goal_terms.specs.PerBroker.{broker_excess, per_broker, unit_brokers};
 ghost use Rattle.goal_terms.specs.Quantity.{part_weight};
 ghost use Rattle.goal_terms.specs.Rooms.{broker_room};
 ghost use Rattle.goal_terms.specs.Sides.{sides};
@@ -13,9 +14,10 @@ use crate::excess::{
 };
 use crate::names::Strength;
 use crate::sides::{place_weight, sides_of};
-use load_model::{Case, LoadBook, Memory};
-use move_actions::{Goal, Heat, Room};
-use plan_terms::Action;
+use goal_terms::{Heat, Room};
+use load_model::{Case, LoadBook};
+use move_actions::Goal;
+use plan_terms::{Action, Memory};
 use std::alloc::Global;
 use std::marker::PhantomData;
 
@@ -45,7 +47,8 @@ impl<A: Amount, B: Band, S: Strength> BrokerGoal<A, B, S> {
 impl<A: NewAmount, B: NewBand, S: Strength> BrokerGoal<A, B, S> {
     /// The goal for the case.
     pub fn new(_alloc: Global, case: &Case) -> Result<Self, Memory>
-        ensures { IfOk result (λ goal. A.made_for goal.kind case.now × B.made_for goal.band case.now) }
+        ensures { IfOk result
+            (λ goal. A.made_for goal.kind case.now × B.made_for goal.band case.now) }
     {
         Ok(BrokerGoal {
             kind: A::new(),
@@ -120,13 +123,17 @@ impl<A: Amount, B: Band, S: Strength> Goal for BrokerGoal<A, B, S> {
 
     ghost small = { λ g c lists made is_case fits. let limits = Limits-case c is_case in per_broker-fits_120_bits (A.weights g.kind) c lists limits (λ k d l. A.small_weights g.kind (get_or c.parts k d) (limits.loads k d l)) fits S.HARD (B.bounds g.band c) (B.small_bounds g.band c made.1 is_case) };
 
-    ghost cold_pairs = { λ g c lists _ is_case fits. broker-cold_pairs S.HARD (A.weights g.kind) (B.bounds g.band c) c lists (Limits-case c is_case) fits };
+    ghost cold_pairs = { λ g c lists _ is_case fits. broker-cold_pairs S.HARD (A.weights g.kind)
+        (B.bounds g.band c) c lists (Limits-case c is_case) fits };
 
-    ghost still_parts = { λ g c lists _ _ _. stirred-still_parts (per_broker S.HARD (A.weights g.kind) (B.bounds g.band c) c) lists };
+    ghost still_parts = { λ g c lists _ _ _. stirred-still_parts
+        (per_broker S.HARD (A.weights g.kind) (B.bounds g.band c) c) lists };
 
-    ghost idle_trades = { λ g c lists _ is_case fits. broker-idle_trades S.HARD (A.weights g.kind) (B.bounds g.band c) c lists (Limits-case c is_case) fits };
+    ghost idle_trades = { λ g c lists _ is_case fits. broker-idle_trades S.HARD (A.weights g.kind)
+        (B.bounds g.band c) c lists (Limits-case c is_case) fits };
 
     ghost rooms_decide = { λ g c lists _ is_case fits. let limits = Limits-case c is_case in broker-rooms_decide S.HARD (A.weights g.kind) (B.bounds g.band c) c lists limits fits (λ k d l. A.small_weights g.kind (get_or c.parts k d) (limits.loads k d l)) };
 
-    ghost rooms_stay = { λ g c lists _ belongs a fit k not_giver not_taker. broker-rooms_stay (A.weights g.kind) (B.bounds g.band c) c lists a belongs fit k not_giver not_taker };
+    ghost rooms_stay = { λ g c lists _ belongs a fit k not_giver not_taker. broker-rooms_stay
+        (A.weights g.kind) (B.bounds g.band c) c lists a belongs fit k not_giver not_taker };
 }

@@ -4,7 +4,7 @@ ghost use Rattle.plan_terms.specs.declared.cluster.Options.{Options};
 ghost use Rattle.std.proofs.Common.{arith};
 ghost use Rattle.std.specs.Prelude.{◌≡◌, ◌<◌, ℕ, Bool, true, false};
 
-use load_model::{Options, Ratio};
+use plan_terms::{Options, Ratio, resources};
 
 /// A resource of brokers.
 pub trait Resource {
@@ -24,7 +24,7 @@ impl Resource for Cpu {
     ghost resource = { 0 };
 
     fn place() -> usize {
-        0
+        resources::CPU
     }
 }
 
@@ -35,7 +35,7 @@ impl Resource for NetworkIn {
     ghost resource = { 1 };
 
     fn place() -> usize {
-        1
+        resources::NW_IN
     }
 }
 
@@ -46,7 +46,7 @@ impl Resource for NetworkOut {
     ghost resource = { 2 };
 
     fn place() -> usize {
-        2
+        resources::NW_OUT
     }
 }
 
@@ -57,7 +57,7 @@ impl Resource for Disk {
     ghost resource = { 3 };
 
     fn place() -> usize {
-        3
+        resources::DISK
     }
 }
 

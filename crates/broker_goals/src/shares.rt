@@ -7,7 +7,8 @@ ghost use Rattle.std.specs.Prelude.{◌≡◌, ◌+◌, ◌-◌, ◌*◌, ◌/�
 use crate::band::{Band, Edges, NewBand};
 use crate::excess::unit_count;
 use crate::names::Balance;
-use load_model::{Broker, Case, Ratio};
+use load_model::Case;
+use plan_terms::{Broker, Ratio};
 use std::marker::PhantomData;
 
 /// As far below 1 as the ratio is above it, times its denominator, or 0: at most 2,000.
@@ -31,7 +32,8 @@ impl<T: Balance> Even<T> {
     // The greatest count that is even enough.
     fn most(&self, all: u128) -> u128
         requires { all < 2 ^ 49 }
-        ensures value { result ≡ rounded_up (all * self.now.ratio.num) (self.now.ratio.den * self.now.units) }
+        ensures value { result
+            ≡ rounded_up (all * self.now.ratio.num) (self.now.ratio.den * self.now.units) }
         ensures small { result ≤ 2 ^ 114 }
     {
         let shares = u128::from(self.ratio.den()) * self.units as u128;
@@ -69,7 +71,8 @@ impl<T: Balance> Band for Even<T> {
         }
     }
 
-    ghost small_bounds = { λ _ c made _. even-small (T.threshold c.options) (units_of c) made.0.small };
+    ghost small_bounds = { λ _ c made _. even-small (T.threshold c.options) (units_of c)
+        made.0.small };
 }
 
 impl<T: Balance> NewBand for Even<T> {

@@ -13,16 +13,7 @@ use crate::band::Band;
 use crate::excess::{amount_at, total_of, unit_excess};
 use goal_terms::{Sides, Trade};
 use load_model::{Case, LoadBook};
-use plan_terms::Action;
-
-fn leads_list(list: &[u32], broker: u32) -> bool
-    ensures { result ≡ leads list.now broker }
-{
-    match list {
-        [] => false,
-        [first, ..] => *first == broker,
-    }
-}
+use plan_terms::{Action, leads};
 
 /// What a place of a partition's list carries: the first one, or another one.
 pub fn place_weight<A: Amount>(kind: &A, case: &Case, part: u32, first: bool) -> u64
@@ -41,7 +32,7 @@ fn trade_of<A: Amount>(kind: &A, case: &Case, book: &LoadBook, action: Action) -
     let _lists = book.lists();
     match action {
         Action::Move { part, from, to } => {
-            let first = leads_list(book.list(part as usize), from);
+            let first = leads(book.list(part as usize), from);
             Trade {
                 from,
                 to,
@@ -61,8 +52,8 @@ fn trade_of<A: Amount>(kind: &A, case: &Case, book: &LoadBook, action: Action) -
             other,
             to,
         } => {
-            let first = leads_list(book.list(part as usize), from);
-            let other_first = leads_list(book.list(other as usize), to);
+            let first = leads(book.list(part as usize), from);
+            let other_first = leads(book.list(other as usize), to);
             Trade {
                 from,
                 to,
@@ -95,10 +86,17 @@ fn side_of<A: Amount, B: Band>(
     requires belongs { IsBookOf case.now book.now }
     requires all { all ≡ total (A.weights kind.now) case.now.parts book.now.lists }
     requires few { all < 2 ^ 49 }
-    requires had { change.given ≤ quantity (A.weights kind.now) case.now.parts id book.now.lists + change.got }
-    requires small { quantity (A.weights kind.now) case.now.parts id book.now.lists + change.got - change.given < 2 ^ 49 }
-    ensures before { result.0 ≡ excess_with (A.weights kind.now) (B.bounds band.now case.now) case.now book.now.lists id (quantity (A.weights kind.now) case.now.parts id book.now.lists) }
-    ensures later { result.1 ≡ excess_with (A.weights kind.now) (B.bounds band.now case.now) case.now book.now.lists id (quantity (A.weights kind.now) case.now.parts id book.now.lists + change.got - change.given) }
+    requires had { change.given
+        ≤ quantity (A.weights kind.now) case.now.parts id book.now.lists + change.got }
+    requires small { quantity (A.weights kind.now) case.now.parts id book.now.lists + change.got -
+        change.given < 2 ^ 49 }
+    ensures before { result.0
+        ≡ excess_with (A.weights kind.now) (B.bounds band.now case.now) case.now book.now.lists id
+        (quantity (A.weights kind.now) case.now.parts id book.now.lists) }
+    ensures later { result.1
+        ≡ excess_with (A.weights kind.now) (B.bounds band.now case.now) case.now book.now.lists id
+        (quantity (A.weights kind.now) case.now.parts id book.now.lists + change.got -
+        change.given) }
     ensures small_before { result.0 ≤ 2 ^ 111 }
     ensures small_later { result.1 ≤ 2 ^ 111 }
 {
@@ -128,7 +126,8 @@ pub fn sides_of<A: Amount, B: Band>(
     requires band { B.made_for band.now case.now }
     requires belongs { IsBookOf case.now book.now }
     requires applies { IsTrue (fits book.now.lists action) }
-    ensures value { result ≡ sides (A.weights kind.now) (B.bounds band.now case.now) case.now book.now.lists action }
+    ensures value { result
+        ≡ sides (A.weights kind.now) (B.bounds band.now case.now) case.now book.now.lists action }
     ensures giver { result.giver ≤ 2 ^ 111 }
     ensures giver_after { result.giver_after ≤ 2 ^ 111 }
     ensures taker { result.taker ≤ 2 ^ 111 }

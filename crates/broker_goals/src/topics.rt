@@ -6,8 +6,8 @@ ghost use Rattle.plan_terms.specs.Faults.{topics};
 ghost use Rattle.plan_terms.specs.Fits.{fits};
 ghost use Rattle.std.specs.Prelude.{◌≡◌, ◌<◌, IfOk, IsTrue, ℕ, length};
 
-use load_model::{Case, LoadBook, Memory, Topic};
-use plan_terms::Action;
+use load_model::{Case, LoadBook};
+use plan_terms::{Action, Memory, Topic};
 use std::alloc::Global;
 
 /// The topics, in the order of their first partitions.
@@ -46,7 +46,8 @@ pub fn second_topic_place(case: &Case, book: &LoadBook, action: Action) -> usize
     requires applies { IsTrue (fits book.now.lists action) }
     ensures within { result < length (topics case.now.parts) }
     ensures named { topic_at case.now.parts result ≡ second_topic case.now.parts action }
-    ensures only { (t : ℕ) → t < length (topics case.now.parts) → topic_at case.now.parts t ≡ second_topic case.now.parts action → t ≡ result }
+    ensures only { (t : ℕ) → t < length (topics case.now.parts)
+        → topic_at case.now.parts t ≡ second_topic case.now.parts action → t ≡ result }
 {
     let _lists = book.lists();
     match action {

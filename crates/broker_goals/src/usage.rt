@@ -11,7 +11,8 @@ ghost use Rattle.std.specs.Prelude.{◌≡◌, ◌-◌, ◌*◌, ◌<◌, ◌≤
 use crate::band::{Band, Edges, NewBand};
 use crate::names::Resource;
 use crate::shares::low_num;
-use load_model::{Broker, Case, Options, Ratio};
+use load_model::Case;
+use plan_terms::{Broker, Options, Ratio};
 use std::marker::PhantomData;
 
 // The threshold of a resource, for the balance of its use.
@@ -68,9 +69,11 @@ impl<R: Resource> Band for NearUse<R> {
     ghost use Rattle.goal_terms.proofs.BandLemmas.{near_use-small};
     ghost use Rattle.goal_terms.proofs.CaseLemmas.{Limits-case};
 
-    ghost bounds = { λ _ c. near_use (ratio_at c.options.balance R.resource) R.resource (whole_cap R.resource c) };
+    ghost bounds = { λ _ c. near_use (ratio_at c.options.balance R.resource) R.resource
+        (whole_cap R.resource c) };
 
-    ghost made_for = { λ b c. IsThreshold b.ratio (ratio_at c.options.balance R.resource) × (b.whole ≡ whole_cap R.resource c) };
+    ghost made_for = { λ b c. IsThreshold b.ratio (ratio_at c.options.balance R.resource)
+        × (b.whole ≡ whole_cap R.resource c) };
 
     fn edges(&self, case: &Case, all: u128, broker: &Broker) -> Edges {
         let place = R::place();
@@ -82,7 +85,8 @@ impl<R: Resource> Band for NearUse<R> {
         }
     }
 
-    ghost small_bounds = { λ _ c made is_case. near_use-small (ratio_at c.options.balance R.resource) R.resource c made.0.small (Limits-case c is_case) };
+    ghost small_bounds = { λ _ c made is_case. near_use-small
+        (ratio_at c.options.balance R.resource) R.resource c made.0.small (Limits-case c is_case) };
 }
 
 impl<R: Resource> NewBand for NearUse<R> {
@@ -107,9 +111,11 @@ impl<R: Resource> Band for BelowUse<R> {
     ghost use Rattle.goal_terms.proofs.BandLemmas.{below_use-small};
     ghost use Rattle.goal_terms.proofs.CaseLemmas.{Limits-case};
 
-    ghost bounds = { λ _ c. below_use (ratio_at c.options.balance R.resource) R.resource (whole_cap R.resource c) };
+    ghost bounds = { λ _ c. below_use (ratio_at c.options.balance R.resource) R.resource
+        (whole_cap R.resource c) };
 
-    ghost made_for = { λ b c. IsThreshold b.ratio (ratio_at c.options.balance R.resource) × (b.whole ≡ whole_cap R.resource c) };
+    ghost made_for = { λ b c. IsThreshold b.ratio (ratio_at c.options.balance R.resource)
+        × (b.whole ≡ whole_cap R.resource c) };
 
     fn edges(&self, case: &Case, all: u128, broker: &Broker) -> Edges {
         let place = R::place();
@@ -120,7 +126,8 @@ impl<R: Resource> Band for BelowUse<R> {
         }
     }
 
-    ghost small_bounds = { λ _ c made is_case. below_use-small (ratio_at c.options.balance R.resource) R.resource c made.0.small (Limits-case c is_case) };
+    ghost small_bounds = { λ _ c made is_case. below_use-small
+        (ratio_at c.options.balance R.resource) R.resource c made.0.small (Limits-case c is_case) };
 }
 
 impl<R: Resource> NewBand for BelowUse<R> {

@@ -1,10 +1,11 @@
 -- Leaving out what does not serve keeps the first that does.
-use Rattle.std.specs.Prelude.{Option, Some, None, MatchOption}
+use Rattle.std.specs.Prelude.{Option, Some, None, MatchOption, is_some, find}
 use Rattle.std.proofs.Common.{◌≡◌, ℕ, ◌<◌, Bool, true, false, List, [], ◌∷◌, ◌++◌, length, get_or, map, take, zero, suc, refl, ap, ◌∙◌, sym, subst, arith, inl, inr, append_assoc}
-use Rattle.std.specs.List.{All, filter, flat_map}
+use Rattle.std.specs.List.{All, AllZip, filter, flat_map}
 use Rattle.std.proofs.lemmas.Bool.{cases_Bool}
+use Rattle.std.proofs.lemmas.Grind.{flat_map-append}
 use Rattle.std.proofs.lemmas.List.{get_or_default}
-use Rattle.std.proofs.lemmas.List.Elements.{All-append, All-nil, All-filter, filter-append}
+use Rattle.std.proofs.lemmas.List.Elements.{All-append, All-cons, All-nil, All-filter, filter-append}
 use Rattle.candidate_order.specs.First.{IsFirst, LeavesOutIdle}
 
 module _ {X : Type 0} (P : X → Type 0) where
@@ -68,6 +69,44 @@ module _ {X : Type 0} (P : X → Type 0) where
   first-flat f (z ∷ ys) zero d a l n h = IsFirst-in_front (f z) (flat_map f ys) a h
   first-flat f (z ∷ ys) (suc i) d a l n h =
       IsFirst-passed (f z) (flat_map f ys) a (n 0 z (omega arith)) (first-flat f ys i d a (omega arith) (λ k e m. n (suc k) e (omega arith)) h)
+
+  -- where each of a list finds the first of its own, the first that finds one finds the first of all end to end
+  module _ {Y : Type 0} (f : Y → List X) where
+    found-later : (y : Y) (ys : List Y) (o : Option (Option X)) → All (λ x. P x → ⊥) (f y)
+        → MatchOption o (All (λ z. All (λ x. P x → ⊥) (f z)) ys) (λ found. MatchOption found ⊥ (λ a. IsFirst P (flat_map f ys) a))
+        → MatchOption o (All (λ z. All (λ x. P x → ⊥) (f z)) (y ∷ ys)) (λ found. MatchOption found ⊥ (λ a. IsFirst P (flat_map f (y ∷ ys)) a))
+    found-later y ys None n h = All-cons (λ z. All (λ x. P x → ⊥) (f z)) y ys n h
+    found-later y ys (Some None) n h = absurd h
+    found-later y ys (Some (Some a)) n h = IsFirst-passed (f y) (flat_map f ys) a n h
+
+    pub found-first : (Finds : Y → Option X → Type 0) → ((y : Y) (o : Option X) → Finds y o → MatchOption o (All (λ x. P x → ⊥) (f y)) (λ a. IsFirst P (f y) a))
+        → (ys : List Y) (os : List (Option X)) → AllZip Finds ys os
+        → MatchOption (find (λ o. is_some o) os) (All (λ z. All (λ x. P x → ⊥) (f z)) ys) (λ found. MatchOption found ⊥ (λ a. IsFirst P (flat_map f ys) a))
+    found-first Finds is [] [] h = All-nil (λ z. All (λ x. P x → ⊥) (f z))
+    found-first Finds is [] (o ∷ os) h = absurd h
+    found-first Finds is (y ∷ ys) [] h = absurd h
+    found-first Finds is (y ∷ ys) (None ∷ os) h = found-later y ys (find (λ o. is_some o) os) (is y None h.0) (found-first Finds is ys os h.1)
+    found-first Finds is (y ∷ ys) (Some a ∷ os) h = IsFirst-in_front (f y) (flat_map f ys) a (is y (Some a) h.0)
+
+    -- so for what a search of them found, or didn't
+    pub found-Some : (Finds : Y → Option X → Type 0) → ((y : Y) (o : Option X) → Finds y o → MatchOption o (All (λ x. P x → ⊥) (f y)) (λ a. IsFirst P (f y) a))
+        → (ys : List Y) (os : List (Option X)) (o : Option X) → AllZip Finds ys os → Some o ≡ find (λ o'. is_some o') os
+        → MatchOption o (All (λ z. All (λ x. P x → ⊥) (f z)) ys) (λ a. IsFirst P (flat_map f ys) a)
+    found-Some Finds is ys os None h e =
+        absurd (subst (λ r. MatchOption r (All (λ z. All (λ x. P x → ⊥) (f z)) ys) (λ found. MatchOption found ⊥ (λ a. IsFirst P (flat_map f ys) a))) (sym e) (found-first Finds is ys os h))
+    found-Some Finds is ys os (Some a) h e =
+        subst (λ r. MatchOption r (All (λ z. All (λ x. P x → ⊥) (f z)) ys) (λ found. MatchOption found ⊥ (λ a'. IsFirst P (flat_map f ys) a'))) (sym e) (found-first Finds is ys os h)
+
+    pub found-None : (Finds : Y → Option X → Type 0) → ((y : Y) (o : Option X) → Finds y o → MatchOption o (All (λ x. P x → ⊥) (f y)) (λ a. IsFirst P (f y) a))
+        → (ys : List Y) (os : List (Option X)) → AllZip Finds ys os → None ≡ find (λ o'. is_some o') os → All (λ z. All (λ x. P x → ⊥) (f z)) ys
+    found-None Finds is ys os h e =
+        subst (λ r. MatchOption r (All (λ z. All (λ x. P x → ⊥) (f z)) ys) (λ found. MatchOption found ⊥ (λ a. IsFirst P (flat_map f ys) a))) (sym e) (found-first Finds is ys os h)
+
+  -- a block in the middle: nothing before it has any
+  pub first-block : {Y : Type 0} (f : Y → List X) (xs ys zs : List Y) (a : X) → All (λ z. All (λ x. P x → ⊥) (f z)) xs
+      → IsFirst P (flat_map f ys) a → IsFirst P (flat_map f (xs ++ (ys ++ zs))) a
+  first-block f xs ys zs a n h =
+      rw (flat_map-append, flat_map-append) (IsFirst-passed (flat_map f xs) (flat_map f ys ++ flat_map f zs) a (none-flat f xs n) (IsFirst-in_front (flat_map f ys) (flat_map f zs) a h))
 
   module _ (keep : X → Bool) where
     -- where none is left none was there

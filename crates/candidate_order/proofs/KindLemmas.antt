@@ -6,7 +6,7 @@ use Rattle.std.proofs.Common.{◌≡◌, ℕ, ◌<◌, true, [], ◌∷◌, ◌+
 use Rattle.std.proofs.lemmas.List.Elements.{All-append, All-filter, filter_passes}
 use Rattle.plan_terms.proofs.EffectLemmas.{fits-legal, targets_known-legal, fits-Move, fits-Lead, fits-Swap}
 use Rattle.plan_terms.specs.Belongs.{Belongs}
-use Rattle.plan_terms.specs.Cluster.{Cluster, Lists, list_of, leads, is_known}
+use Rattle.plan_terms.specs.Cluster.{Cluster, Lists, list_of, leads, is_known, ids_of}
 use Rattle.plan_terms.specs.Goal.{Meaning}
 use Rattle.plan_terms.specs.Legal.{is_legal, candidates, all_actions, leads_of}
 use Rattle.plan_terms.specs.Trace.{Step, NoneLeft}
@@ -14,7 +14,6 @@ use Rattle.plan_terms.specs.declared.cluster.Broker.{Broker}
 use Rattle.plan_terms.specs.declared.actions.Action.{Action}
 use Rattle.plan_terms.specs.declared.actions.Action.TheVariants.{Move, Lead, Swap}
 use Rattle.goal_terms.specs.Pairs.{ColdPairs, giver, taker}
-use Rattle.goal_terms.specs.PerBroker.{ids_of}
 use Rattle.goal_terms.specs.declared.heat.Heat.{Heat}
 use Rattle.goal_terms.specs.declared.heat.Heat.TheVariants.{Cold}
 use Rattle.candidate_order.specs.CandidateList.{replicas_of, candidates_in, move_list, lead_list, swap_list, candidate_list}

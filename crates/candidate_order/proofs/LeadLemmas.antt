@@ -3,12 +3,11 @@ use Rattle.std.specs.Prelude.{List, Option, Some, None}
 use Rattle.std.proofs.Common.{◌≡◌, ℕ, suc, true, false, [], ◌∷◌, map, refl, ap, ◌∙◌, sym, subst, arith, inl, inr}
 use Rattle.std.specs.List.{All}
 use Rattle.std.proofs.lemmas.Bool.{cases_eq, ne_eqb, false≢true}
-use Rattle.plan_terms.specs.Cluster.{Cluster, Lists, has}
+use Rattle.plan_terms.specs.Cluster.{Cluster, Lists, has, ids_of}
 use Rattle.plan_terms.specs.Legal.{leads_of}
 use Rattle.plan_terms.specs.declared.cluster.Broker.{Broker}
 use Rattle.plan_terms.specs.declared.actions.Action.TheVariants.{Lead}
 use Rattle.plan_terms.specs.declared.cluster.Part.{Part}
-use Rattle.goal_terms.specs.PerBroker.{ids_of}
 use Rattle.goal_terms.specs.Quantity.{Weights}
 use Rattle.candidate_order.specs.Looks.{look_weight, look_out, look_back}
 use Rattle.candidate_order.proofs.RowLemmas.{through}

@@ -1,3 +1,4 @@
+pub mod BlockLemmas
 pub mod Candidates
 pub mod Complete
 pub mod Firsts

@@ -6,10 +6,9 @@ use Rattle.std.proofs.lemmas.Bool.{cases_Bool}
 use Rattle.goal_terms.specs.Pairs.{taker}
 use Rattle.std.proofs.lemmas.List.{get_or-map, length-map, take_more, append-nil}
 use Rattle.std.proofs.lemmas.List.Elements.{All-append, All-nil, All-filter, filter-append}
-use Rattle.plan_terms.specs.Cluster.{Cluster, Lists, has, list_of}
+use Rattle.plan_terms.specs.Cluster.{Cluster, Lists, has, list_of, id_at, ids_of}
 use Rattle.plan_terms.specs.declared.cluster.Broker.{Broker}
 use Rattle.plan_terms.specs.declared.actions.Action.TheVariants.{Move}
-use Rattle.goal_terms.specs.PerBroker.{id_at, ids_of}
 use Rattle.candidate_order.specs.CandidateList.{moves_of_replica, replicas_of, by_falling, put_by, numbers}
 use Rattle.candidate_order.specs.Order.{IsOrderOf}
 

@@ -6,12 +6,11 @@ use Rattle.std.proofs.lemmas.List.{get_or-set_other, get_or-set_same, length-set
 use Rattle.plan_terms.proofs.EffectLemmas.{LeadFits, SwapFits}
 use Rattle.plan_terms.proofs.MemberLemmas.{has-replaced, has-later}
 use Rattle.plan_terms.specs.Belongs.{distinct}
-use Rattle.plan_terms.specs.Cluster.{Cluster, Lists, list_of, has, leads}
+use Rattle.plan_terms.specs.Cluster.{Cluster, Lists, list_of, has, leads, id_at, ids_of}
 use Rattle.plan_terms.specs.Effect.{replace, exchange_first}
 use Rattle.candidate_order.specs.Order.{AreReplicasOf}
 use Rattle.plan_terms.specs.Cluster.{broker_of}
 use Rattle.plan_terms.specs.declared.cluster.Broker.{Broker}
-use Rattle.goal_terms.specs.PerBroker.{id_at, ids_of}
 use Rattle.candidate_order.specs.CandidateList.{replicas_of}
 use Rattle.candidate_order.specs.Order.{IsOrderOf}
 use Rattle.candidate_order.proofs.OrderLemmas.{replicas-are, replicas-only}

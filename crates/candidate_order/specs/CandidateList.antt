@@ -12,6 +12,7 @@ use Rattle.goal_terms.specs.Quantity.{part_weight, load_weights}
 use Rattle.candidate_order.specs.First.{IsFirst}
 use Rattle.candidate_order.specs.declared.plain.Kind.{Kind}
 use Rattle.candidate_order.specs.declared.plain.Kind.TheVariants.{Moves, Leads, Swaps}
+use Rattle.plan_terms.specs.Resources.{DISK}
 
 -- x goes before the first that weighs no more
 abbrev pub put_by : (ℕ → ℕ) → ℕ → List ℕ → List ℕ
@@ -29,7 +30,7 @@ numbers n = each_below (λ p. p ∷ []) n
 
 -- the DISK load that the broker's place of a partition carries
 abbrev pub disk_of : Cluster → Lists → ℕ → ℕ → ℕ
-disk_of c lists b p = part_weight (load_weights 3) c.parts p (leads (list_of lists p) b)
+disk_of c lists b p = part_weight (load_weights DISK) c.parts p (leads (list_of lists p) b)
 
 -- the partitions of a broker's replicas, by falling DISK load, ties by partition
 abbrev pub replicas_of : Cluster → Lists → ℕ → List ℕ

@@ -1,19 +1,26 @@
 -- What is known before candidates are tried.
-use Rattle.std.specs.Prelude.{◌≡◌, ℕ, ◌<◌, Bool, true, List, Option, map, length, get_or}
+use Rattle.std.specs.Prelude.{◌≡◌, ℕ, ◌<◌, Bool, true, List, Option, MatchOption, map, length, get_or}
 use Rattle.std.specs.List.{All, filter}
-use Rattle.plan_terms.specs.Cluster.{Cluster, has, some_broker}
+use Rattle.plan_terms.specs.Belongs.{Book, IsBookOf}
+use Rattle.plan_terms.specs.Cluster.{Cluster, Lists, has, some_broker, ids_of}
 use Rattle.plan_terms.specs.States.{is_new}
+use Rattle.plan_terms.specs.Trace.{Step}
+use Rattle.plan_terms.specs.declared.actions.Action.{Action}
 use Rattle.plan_terms.specs.declared.cluster.Part.{Part}
-use Rattle.goal_terms.specs.PerBroker.{ids_of}
 use Rattle.goal_terms.specs.Quantity.{Weights}
 use Rattle.goal_terms.specs.declared.heat.Heat.{Heat}
 use Rattle.goal_terms.specs.declared.room.Room.{Room}
+use Rattle.move_actions.specs.declared.goals.Goal as goal_trait
+use Rattle.candidate_order.specs.CandidateList.{NoStep, candidates_at}
+use Rattle.candidate_order.specs.First.{IsFirst}
 use Rattle.candidate_order.specs.Looks.{is_below, look_room, IsWeighed}
+use Rattle.candidate_order.specs.Order.{IsOrderOf}
 use Rattle.candidate_order.specs.declared.kept.Choice.{Choice}
 use Rattle.candidate_order.specs.declared.kept.Choice.TheVariants as choice
 use Rattle.candidate_order.specs.declared.kept.PartWeights.{PartWeights}
 use Rattle.candidate_order.specs.declared.kept.Row.{Row}
 use Rattle.candidate_order.specs.declared.kept.Scan.{Scan}
+use Rattle.candidate_order.specs.declared.plain.Kind.{Kind}
 
 -- of one broker: its room for each earlier goal, and where its quantity lies for the goal at hand
 pub record IsRow {X : Type 0} (weighs : X → Option Weights) (room : X → ℕ → Room) (heat : ℕ → Heat) (earlier : List X) (r : Row) : Type 0 where
@@ -52,3 +59,18 @@ pub record IsScan {X : Type 0} (weighs : X → Option Weights) (room : X → ℕ
   pub below_are : AreBelow weighs room heat earlier c s.below.items
   pub added_are : AreChosen choice.New weighs room heat earlier c s.added.items
   pub stirring_are : AreStirring stirs c.parts s.stirring.items
+
+-- what a search for the candidates of one broker's replicas stands on
+pub record IsSearch {G : Type 0} (g : goal_trait.Ghosts G) (earlier : List G) (goal : G) (c : Cluster) (b : Book) (order : List (List ℕ)) (scan : Scan) (source : Row) : Type 0 where
+  pub made : All (λ x. g.made_for x c) earlier
+  pub made_goal : g.made_for goal c
+  pub belongs : IsBookOf c b
+  pub order_is : IsOrderOf c b.lists order
+  pub scan_is : IsScan g.weighs (λ x. g.room_at x c b.lists) (g.heat_at goal c b.lists) (g.stirs_at goal c b.lists) earlier c scan
+  pub source_is : IsRow g.weighs (λ x. g.room_at x c b.lists) (g.heat_at goal c b.lists) earlier source
+
+-- what was found for a broker's replica of one partition: the first of its candidates of one kind that serves, if one does
+pub record Finds {G : Type 0} (g : goal_trait.Ghosts G) (earlier : List G) (goal : G) (c : Cluster) (lists : Lists) (kind : Kind) (from p : ℕ) (found : Option Action) : Type 0 where
+  pub first : MatchOption found
+      (NoStep c (map (λ x. g.meaning x c) earlier) (g.meaning goal c) lists (candidates_at kind c lists from p))
+      (λ a. IsFirst (Step c (map (λ x. g.meaning x c) earlier) (g.meaning goal c) lists) (candidates_at kind c lists from p) a)

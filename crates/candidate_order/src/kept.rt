@@ -1,18 +1,20 @@
 // What is known before candidates are tried.
-ghost use Rattle.std.specs.Prelude.{◌≡◌, ◌<◌, ℕ, true, false, IfOk, IsTrue, map, length};
+ghost use Rattle.candidate_order.specs.Known.{AreBelowFor, AreChosenFor, IsRowFor, IsScanFor};
+ghost use Rattle.std.specs.Prelude.{◌≡◌, ◌<◌, true, false, IfOk, IsTrue, map, length};
 ghost use Rattle.std.specs.List.{All};
 ghost use Rattle.candidate_order.specs.Looks.{is_cold, look_weight, look_whole, IsWeighed};
 ghost use Rattle.candidate_order.specs.declared.kept.Row.{Row};
-ghost use Rattle.candidate_order.specs.Scan.{AreBelow, AreChosen, AreStirring, AreWeights, IsRow, IsScan, is_chosen};
+ghost use Rattle.candidate_order.specs.Scan.{AreStirring, AreWeights, is_chosen};
 ghost use Rattle.goal_terms.specs.declared.heat.Heat.TheVariants as heat;
-ghost use Rattle.goal_terms.specs.PerBroker.{id_at, ids_of};
 ghost use Rattle.plan_terms.specs.Belongs.{IsBookOf};
-ghost use Rattle.plan_terms.specs.Cluster.{is_known};
+ghost use Rattle.plan_terms.specs.Cluster.{is_known, id_at, ids_of};
 
 use crate::looks::{rooms_of, weights_of, wholes_of};
 use crate::order::broker_place;
-use load_model::{Case, LoadBook, Memory};
-use move_actions::{Goal, Heat, Room, is_new};
+use goal_terms::{Heat, Room};
+use load_model::{Case, LoadBook};
+use move_actions::Goal;
+use plan_terms::Memory;
 use std::alloc::Global;
 
 /// What the places of a partition weigh for the earlier goals: 0 for one without a quantity.
@@ -57,7 +59,8 @@ fn part_weights<G: Goal>(
 ) -> Result<PartWeights, Memory>
     requires made { All (λ g. G.made_for g case.now) earlier.now }
     requires part { part < length case.now.parts }
-    ensures { IfOk result (λ w. IsWeighed G.weighs earlier.now case.now.parts part w.lead.items w.follow.items) }
+    ensures { IfOk result
+        (λ w. IsWeighed G.weighs earlier.now case.now.parts part w.lead.items w.follow.items) }
 {
     let lead = weights_of(alloc, case, earlier, part, true)?;
     let follow = weights_of(alloc, case, earlier, part, false)?;
@@ -117,10 +120,11 @@ fn row_at<G: Goal>(
     requires made { All (λ g. G.made_for g case.now) earlier.now }
     requires made_goal { G.made_for goal.now case.now }
     requires belongs { IsBookOf case.now book.now }
-    requires wholes { wholes.now ≡ map (λ g. look_whole (G.weighs g) case.now.parts book.now.lists) earlier.now }
+    requires wholes { wholes.now
+        ≡ map (λ g. look_whole (G.weighs g) case.now.parts book.now.lists) earlier.now }
     requires broker { broker < length case.now.brokers }
     ensures id { IfOk result (λ r. r.id ≡ id_at case.now.brokers broker) }
-    ensures row { IfOk result (IsRow G.weighs (λ g. G.room_at g case.now book.now.lists) (G.heat_at goal.now case.now book.now.lists) earlier.now) }
+    ensures row { IfOk result (IsRowFor G.Goal case.now book.now.lists earlier.now goal.now) }
 {
     let id = case.brokers()[broker].id;
     let rooms = rooms_of(alloc, case, book, earlier, wholes, broker)?;
@@ -140,7 +144,8 @@ pub fn all_rows<G: Goal>(
     requires made_goal { G.made_for goal.now case.now }
     requires belongs { IsBookOf case.now book.now }
     ensures brokers { IfOk result (λ v. map (λ (r : Row). r.id) v.items ≡ ids_of case.now.brokers) }
-    ensures rows { IfOk result (λ v. All (IsRow G.weighs (λ g. G.room_at g case.now book.now.lists) (G.heat_at goal.now case.now book.now.lists) earlier.now) v.items) }
+    ensures rows { IfOk result
+        (λ v. All (IsRowFor G.Goal case.now book.now.lists earlier.now goal.now) v.items) }
 {
     let wholes = wholes_of(alloc, case, book, earlier)?;
     let mut rows = Vec::new(alloc);
@@ -182,7 +187,7 @@ fn is_chosen(case: &Case, choice: Choice, row: &Row) -> bool
 {
     match choice {
         Choice::Below => matches!(row.heat, Heat::Below),
-        Choice::New => is_new(case, row.id),
+        Choice::New => case.is_new(row.id),
     }
 }
 
@@ -197,8 +202,9 @@ pub fn all_chosen<G: Goal>(
     choice: Choice,
 ) -> Result<Vec<Row>, Memory>
     requires brokers { map (λ (r : Row). r.id) rows.now ≡ ids_of case.now.brokers }
-    requires rows { All (IsRow G.weighs (λ g. G.room_at g case.now book.now.lists) (G.heat_at goal.now case.now book.now.lists) earlier.now) rows.now }
-    ensures { IfOk result (λ v. AreChosen choice G.weighs (λ g. G.room_at g case.now book.now.lists) (G.heat_at goal.now case.now book.now.lists) earlier.now case.now v.items) }
+    requires rows { All (IsRowFor G.Goal case.now book.now.lists earlier.now goal.now) rows.now }
+    ensures { IfOk result
+        (λ v. AreChosenFor G.Goal case.now book.now.lists earlier.now goal.now choice v.items) }
 {
     let _brokers = case.brokers();
     let _lists = book.lists();
@@ -223,8 +229,9 @@ pub fn all_below<G: Goal>(
     rows: &[Row],
 ) -> Result<Vec<Row>, Memory>
     requires brokers { map (λ (r : Row). r.id) rows.now ≡ ids_of case.now.brokers }
-    requires rows { All (IsRow G.weighs (λ g. G.room_at g case.now book.now.lists) (G.heat_at goal.now case.now book.now.lists) earlier.now) rows.now }
-    ensures { IfOk result (λ v. AreBelow G.weighs (λ g. G.room_at g case.now book.now.lists) (G.heat_at goal.now case.now book.now.lists) earlier.now case.now v.items) }
+    requires rows { All (IsRowFor G.Goal case.now book.now.lists earlier.now goal.now) rows.now }
+    ensures { IfOk result
+        (λ v. AreBelowFor G.Goal case.now book.now.lists earlier.now goal.now v.items) }
 {
     all_chosen(alloc, case, book, earlier, goal, rows, Choice::Below)
 }
@@ -255,7 +262,8 @@ pub fn all_stirring<G: Goal>(
 ) -> Result<Vec<u32>, Memory>
     requires made_goal { G.made_for goal.now case.now }
     requires belongs { IsBookOf case.now book.now }
-    ensures { IfOk result (λ v. AreStirring (G.stirs_at goal.now case.now book.now.lists) case.now.parts v.items) }
+    ensures { IfOk result
+        (λ v. AreStirring (G.stirs_at goal.now case.now book.now.lists) case.now.parts v.items) }
 {
     let mut stirring = Vec::new(alloc);
     let end = case.parts().len() as u32;
@@ -276,10 +284,10 @@ pub(crate) fn row_of<'a, G: Goal>(
     scan: &'a Scan,
     broker: u32,
 ) -> &'a Row
-    requires scan { IsScan G.weighs (λ g. G.room_at g case.now book.now.lists) (G.heat_at goal.now case.now book.now.lists) (G.stirs_at goal.now case.now book.now.lists) earlier.now case.now scan.now }
+    requires scan { IsScanFor G.Goal case.now book.now.lists earlier.now goal.now scan.now }
     requires known { IsTrue (is_known case.now broker) }
     ensures id { result.now.id ≡ broker }
-    ensures row { IsRow G.weighs (λ g. G.room_at g case.now book.now.lists) (G.heat_at goal.now case.now book.now.lists) earlier.now result.now }
+    ensures row { IsRowFor G.Goal case.now book.now.lists earlier.now goal.now result.now }
 {
     let _brokers = case.brokers();
     let _lists = book.lists();

@@ -6,7 +6,8 @@ ghost use Rattle.plan_terms.specs.Goal.{Meaning};
 
 /// To leave out candidates that don't serve changes neither the first that does nor whether there is one.
 pub fn filters_keep_the_first()
-    ensures { (c : Cluster) (earlier : List Meaning) (goal : Meaning) (lists : Lists) → FiltersKeepTheFirst c earlier goal lists }
+    ensures { (c : Cluster) (earlier : List Meaning) (goal : Meaning) (lists : Lists)
+        → FiltersKeepTheFirst c earlier goal lists }
 {}
 
 /// The order of a broker's replicas is fixed by what it is to be: there is one such list.
@@ -21,5 +22,6 @@ pub fn candidates_are_all()
 
 /// Moves come before leads, and leads before swaps.
 pub fn moves_come_first()
-    ensures { (c : Cluster) (earlier : List Meaning) (goal : Meaning) (lists : Lists) → MovesComeFirst c earlier goal lists }
+    ensures { (c : Cluster) (earlier : List Meaning) (goal : Meaning) (lists : Lists)
+        → MovesComeFirst c earlier goal lists }
 {}

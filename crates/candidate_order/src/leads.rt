@@ -1,20 +1,18 @@
 // The first lead of one partition that serves.
-ghost use Rattle.std.specs.Prelude.{◌≡◌, ◌<◌, ◌↔◌, ℕ, true, false, IsTrue, MatchOption, map, length};
+ghost use Rattle.std.specs.Prelude.{◌≡◌, ◌<◌, ◌↔◌, true, false, IsTrue, length};
 ghost use Rattle.std.specs.List.{All};
-ghost use Rattle.candidate_order.specs.CandidateList.{NoStep};
-ghost use Rattle.candidate_order.specs.First.{IsFirst};
-ghost use Rattle.candidate_order.specs.Scan.{IsRow, IsScan};
+ghost use Rattle.candidate_order.specs.Known.{FindsFirst, IsRowFor, IsScanFor, StepFor};
 ghost use Rattle.plan_terms.specs.Belongs.{IsBookOf};
 ghost use Rattle.plan_terms.specs.Cluster.{list_of, leads, is_known};
 ghost use Rattle.plan_terms.specs.Legal.{leads_of};
-ghost use Rattle.plan_terms.specs.Trace.{Step};
 ghost use Rattle.plan_terms.specs.declared.actions.Action.{Action};
 
 use crate::kept::{Row, Scan, column, row_of};
 use crate::swaps::may_swap;
 use crate::trades::trade_serves;
 use load_model::{Case, LoadBook};
-use move_actions::{Action, Goal};
+use move_actions::Goal;
+use plan_terms::Action;
 
 // Whether a lead of a partition, whose first member is the source, to one broker serves.
 fn lead_serves<G: Goal>(
@@ -30,12 +28,13 @@ fn lead_serves<G: Goal>(
     requires made { All (λ g. G.made_for g case.now) earlier.now }
     requires made_goal { G.made_for goal.now case.now }
     requires belongs { IsBookOf case.now book.now }
-    requires scan { IsScan G.weighs (λ g. G.room_at g case.now book.now.lists) (G.heat_at goal.now case.now book.now.lists) (G.stirs_at goal.now case.now book.now.lists) earlier.now case.now scan.now }
+    requires scan { IsScanFor G.Goal case.now book.now.lists earlier.now goal.now scan.now }
     requires part { part < length case.now.parts }
     requires first { leads (list_of book.now.lists part) source.now.id ≡ true }
-    requires source { IsRow G.weighs (λ g. G.room_at g case.now book.now.lists) (G.heat_at goal.now case.now book.now.lists) earlier.now source.now }
+    requires source { IsRowFor G.Goal case.now book.now.lists earlier.now goal.now source.now }
     requires known { IsTrue (is_known case.now to) }
-    ensures { IsTrue result ↔ Step case.now (map (λ g. G.meaning g case.now) earlier.now) (G.meaning goal.now case.now) book.now.lists (Action.Lead part to) }
+    ensures { IsTrue result
+        ↔ StepFor G.Goal case.now book.now.lists earlier.now goal.now (Action.Lead part to) }
 {
     let _brokers = case.brokers();
     let _lists = book.lists();
@@ -70,11 +69,14 @@ fn some_lead_serves<G: Goal>(
     requires made { All (λ g. G.made_for g case.now) earlier.now }
     requires made_goal { G.made_for goal.now case.now }
     requires belongs { IsBookOf case.now book.now }
-    requires scan { IsScan G.weighs (λ g. G.room_at g case.now book.now.lists) (G.heat_at goal.now case.now book.now.lists) (G.stirs_at goal.now case.now book.now.lists) earlier.now case.now scan.now }
+    requires scan { IsScanFor G.Goal case.now book.now.lists earlier.now goal.now scan.now }
     requires part { part < length case.now.parts }
     requires first { leads (list_of book.now.lists part) source.now.id ≡ true }
-    requires source { IsRow G.weighs (λ g. G.room_at g case.now book.now.lists) (G.heat_at goal.now case.now book.now.lists) earlier.now source.now }
-    ensures { result ≡ false → All (λ b. Step case.now (map (λ g. G.meaning g case.now) earlier.now) (G.meaning goal.now case.now) book.now.lists (Action.Lead part b) → ⊥) (list_of book.now.lists part) }
+    requires source { IsRowFor G.Goal case.now book.now.lists earlier.now goal.now source.now }
+    ensures { result ≡ false
+        → All
+        (λ b. StepFor G.Goal case.now book.now.lists earlier.now goal.now (Action.Lead part b)
+        → ⊥) (list_of book.now.lists part) }
 {
     let _lists = book.lists();
     let members = book.list(part as usize);
@@ -99,13 +101,12 @@ pub fn first_lead<G: Goal>(
     requires made { All (λ g. G.made_for g case.now) earlier.now }
     requires made_goal { G.made_for goal.now case.now }
     requires belongs { IsBookOf case.now book.now }
-    requires scan { IsScan G.weighs (λ g. G.room_at g case.now book.now.lists) (G.heat_at goal.now case.now book.now.lists) (G.stirs_at goal.now case.now book.now.lists) earlier.now case.now scan.now }
+    requires scan { IsScanFor G.Goal case.now book.now.lists earlier.now goal.now scan.now }
     requires part { part < length case.now.parts }
     requires first { leads (list_of book.now.lists part) source.now.id ≡ true }
-    requires source { IsRow G.weighs (λ g. G.room_at g case.now book.now.lists) (G.heat_at goal.now case.now book.now.lists) earlier.now source.now }
-    ensures { MatchOption result
-        (NoStep case.now (map (λ g. G.meaning g case.now) earlier.now) (G.meaning goal.now case.now) book.now.lists (leads_of case.now.brokers part))
-        (λ a. IsFirst (Step case.now (map (λ g. G.meaning g case.now) earlier.now) (G.meaning goal.now case.now) book.now.lists) (leads_of case.now.brokers part) a) }
+    requires source { IsRowFor G.Goal case.now book.now.lists earlier.now goal.now source.now }
+    ensures { FindsFirst G.Goal case.now book.now.lists earlier.now goal.now
+        (leads_of case.now.brokers part) result }
 {
     let _brokers = case.brokers();
     if !some_lead_serves(case, book, earlier, goal, scan, part, source) {

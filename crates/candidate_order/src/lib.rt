@@ -1,6 +1,7 @@
 //! Which action the planner takes next: a legal one that the goals before accept and that lessens the goal at hand.
 #![tactic(auto)]
 
+mod blocks;
 mod kept;
 mod laws;
 mod leads;
@@ -14,6 +15,7 @@ mod rows;
 mod swaps;
 mod trades;
 
+pub use blocks::{BLOCK, Finder, Search, first_by_blocks};
 pub use kept::{
     Choice, PartWeights, Row, Scan, all_below, all_chosen, all_rows, all_stirring, all_weights,
 };

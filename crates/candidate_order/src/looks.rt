@@ -1,18 +1,20 @@
 // What the earlier goals say of a move, by the rooms of its two brokers.
+ghost use Rattle.candidate_order.specs.Known.{rooms_for, weights_for};
 ghost use Rattle.std.specs.Prelude.{◌≡◌, ◌<◌, ◌≤◌, ◌↔◌, ℕ, false, None, IsTrue, IfOk, IfSome, map, length, get_or};
 ghost use Rattle.std.specs.List.{All};
 ghost use Rattle.candidate_order.specs.Looks.{look_weight, look_whole, look_room, Passes};
-ghost use Rattle.goal_terms.specs.PerBroker.{id_at};
 ghost use Rattle.goal_terms.specs.Rooms.{free};
 ghost use Rattle.plan_terms.specs.Belongs.{IsBookOf};
-ghost use Rattle.plan_terms.specs.Cluster.{list_of, leads};
-ghost use Rattle.plan_terms.specs.Fits.{fits, targets_known};
+ghost use Rattle.plan_terms.specs.Cluster.{leads, id_at};
+ghost use Rattle.plan_terms.specs.Fits.{fits};
 ghost use Rattle.plan_terms.specs.Goal.{Accepts};
 ghost use Rattle.plan_terms.specs.Trace.{AllAccept};
 ghost use Rattle.plan_terms.specs.declared.actions.Action.{Action};
 
-use load_model::{Case, LoadBook, Memory};
-use move_actions::{Action, Goal, Room};
+use goal_terms::Room;
+use load_model::{Case, LoadBook};
+use move_actions::Goal;
+use plan_terms::{Action, Memory};
 use std::alloc::Global;
 
 // What a place of a partition carries for a goal: 0 where it has no quantity.
@@ -37,7 +39,8 @@ pub fn weights_of<G: Goal>(
 ) -> Result<Vec<u64>, Memory>
     requires made { All (λ g. G.made_for g case.now) goals.now }
     requires part { part < length case.now.parts }
-    ensures { IfOk result (λ v. v.items ≡ map (λ g. look_weight (G.weighs g) case.now.parts part leads) goals.now) }
+    ensures { IfOk result
+        (λ v. v.items ≡ map (λ g. look_weight (G.weighs g) case.now.parts part leads) goals.now) }
 {
     let mut weights = Vec::new(alloc);
     for goal in goals {
@@ -77,7 +80,8 @@ pub fn wholes_of<G: Goal>(
 ) -> Result<Vec<u128>, Memory>
     requires made { All (λ g. G.made_for g case.now) goals.now }
     requires belongs { IsBookOf case.now book.now }
-    ensures { IfOk result (λ v. v.items ≡ map (λ g. look_whole (G.weighs g) case.now.parts book.now.lists) goals.now) }
+    ensures { IfOk result
+        (λ v. v.items ≡ map (λ g. look_whole (G.weighs g) case.now.parts book.now.lists) goals.now) }
 {
     let mut wholes = Vec::new(alloc);
     for goal in goals {
@@ -92,7 +96,9 @@ fn room_for<G: Goal>(case: &Case, book: &LoadBook, goal: &G, all: u128, broker: 
     requires belongs { IsBookOf case.now book.now }
     requires all { all ≡ look_whole (G.weighs goal.now) case.now.parts book.now.lists }
     requires broker { broker < length case.now.brokers }
-    ensures { result ≡ look_room (G.weighs goal.now) (G.room_at goal.now case.now book.now.lists (id_at case.now.brokers broker)) }
+    ensures { result
+        ≡ look_room (G.weighs goal.now)
+        (G.room_at goal.now case.now book.now.lists (id_at case.now.brokers broker)) }
 {
     match goal.room(case, book, all, broker) {
         Some(room) => room,
@@ -111,9 +117,12 @@ pub fn rooms_of<G: Goal>(
 ) -> Result<Vec<Room>, Memory>
     requires made { All (λ g. G.made_for g case.now) goals.now }
     requires belongs { IsBookOf case.now book.now }
-    requires wholes { wholes.now ≡ map (λ g. look_whole (G.weighs g) case.now.parts book.now.lists) goals.now }
+    requires wholes { wholes.now
+        ≡ map (λ g. look_whole (G.weighs g) case.now.parts book.now.lists) goals.now }
     requires broker { broker < length case.now.brokers }
-    ensures { IfOk result (λ v. v.items ≡ map (λ g. look_room (G.weighs g) (G.room_at g case.now book.now.lists (id_at case.now.brokers broker))) goals.now) }
+    ensures { IfOk result
+        (λ v. v.items
+        ≡ rooms_for G.Goal case.now book.now.lists (id_at case.now.brokers broker) goals.now) }
 {
     let mut rooms = Vec::new(alloc);
     for (k, goal) in goals.iter().enumerate() {
@@ -125,7 +134,9 @@ pub fn rooms_of<G: Goal>(
 /// Whether each giver may give the weight.
 pub fn all_give(weights: &[u64], givers: &[Room]) -> bool
     requires { length weights.now ≡ length givers.now }
-    ensures { IsTrue result ↔ ((k : ℕ) → k < length weights.now → get_or weights.now k 0 ≤ (get_or givers.now k free).give) }
+    ensures { IsTrue result
+        ↔ ((k : ℕ) → k < length weights.now
+        → get_or weights.now k 0 ≤ (get_or givers.now k free).give) }
 {
     for k in 0..weights.len() {
         if givers[k].give < weights[k] {
@@ -139,7 +150,10 @@ pub fn all_give(weights: &[u64], givers: &[Room]) -> bool
 pub fn all_pass(weights: &[u64], givers: &[Room], takers: &[Room]) -> bool
     requires givers { length weights.now ≡ length givers.now }
     requires takers { length weights.now ≡ length takers.now }
-    ensures { IsTrue result ↔ ((k : ℕ) → k < length weights.now → Passes (get_or weights.now k 0) (get_or givers.now k free) (get_or takers.now k free)) }
+    ensures { IsTrue result
+        ↔ ((k : ℕ) → k < length weights.now
+        → Passes (get_or weights.now k 0) (get_or givers.now k free)
+        (get_or takers.now k free)) }
 {
     for k in 0..weights.len() {
         if givers[k].give < weights[k] || takers[k].take < weights[k] {
@@ -161,9 +175,12 @@ pub fn may_leave<G: Goal>(
 ) -> bool
     requires made { All (λ g. G.made_for g case.now) earlier.now }
     requires belongs { IsBookOf case.now book.now }
-    requires weights { weights.now ≡ map (λ g. look_weight (G.weighs g) case.now.parts part (leads (list_of book.now.lists part) from)) earlier.now }
-    requires givers { givers.now ≡ map (λ g. look_room (G.weighs g) (G.room_at g case.now book.now.lists from)) earlier.now }
-    ensures { result ≡ false → (to : ℕ) → IsTrue (fits book.now.lists (Action.Move part from to)) → AllAccept (map (λ g. G.meaning g case.now) earlier.now) book.now.lists (Action.Move part from to) → ⊥ }
+    requires weights { weights.now
+        ≡ weights_for G.Goal case.now book.now.lists part from earlier.now }
+    requires givers { givers.now ≡ rooms_for G.Goal case.now book.now.lists from earlier.now }
+    ensures { result ≡ false → (to : ℕ) → IsTrue (fits book.now.lists (Action.Move part from to))
+        → AllAccept (map (λ g. G.meaning g case.now) earlier.now) book.now.lists
+        (Action.Move part from to) → ⊥ }
 {
     let _brokers = case.brokers();
     all_give(weights, givers)
@@ -184,10 +201,15 @@ pub fn weighed_accept<G: Goal>(
     requires made { All (λ g. G.made_for g case.now) earlier.now }
     requires belongs { IsBookOf case.now book.now }
     requires applies { IsTrue (fits book.now.lists (Action.Move part from to)) }
-    requires weights { weights.now ≡ map (λ g. look_weight (G.weighs g) case.now.parts part (leads (list_of book.now.lists part) from)) earlier.now }
-    requires givers { givers.now ≡ map (λ g. look_room (G.weighs g) (G.room_at g case.now book.now.lists from)) earlier.now }
-    requires takers { takers.now ≡ map (λ g. look_room (G.weighs g) (G.room_at g case.now book.now.lists to)) earlier.now }
-    ensures { IsTrue result ↔ All (λ g. IfSome (G.weighs g) (λ _. Accepts (G.meaning g case.now) book.now.lists (Action.Move part from to))) earlier.now }
+    requires weights { weights.now
+        ≡ weights_for G.Goal case.now book.now.lists part from earlier.now }
+    requires givers { givers.now ≡ rooms_for G.Goal case.now book.now.lists from earlier.now }
+    requires takers { takers.now ≡ rooms_for G.Goal case.now book.now.lists to earlier.now }
+    ensures { IsTrue result
+        ↔ All
+        (λ g. IfSome (G.weighs g)
+        (λ _. Accepts (G.meaning g case.now) book.now.lists (Action.Move part from to)))
+        earlier.now }
 {
     let _brokers = case.brokers();
     all_pass(weights, givers, takers)

@@ -1,22 +1,58 @@
 // The first candidate that serves.
-ghost use Rattle.std.specs.Prelude.{MatchOption, IfOk, map};
+ghost use Rattle.std.specs.Prelude.{IsTrue, IfOk};
 ghost use Rattle.std.specs.List.{All};
-ghost use Rattle.candidate_order.specs.CandidateList.{FirstStep};
+ghost use Rattle.candidate_order.specs.Known.{FindsNext, IsScanFor, NoneLeftFor};
 ghost use Rattle.candidate_order.specs.Order.{IsOrderOf};
-ghost use Rattle.candidate_order.specs.Scan.{AreWeights, IsScan};
+ghost use Rattle.candidate_order.specs.Scan.{AreStirring, AreWeights};
 ghost use Rattle.plan_terms.specs.Belongs.{IsBookOf};
-ghost use Rattle.plan_terms.specs.Trace.{NoneLeft};
 
 use crate::kept::{Choice, Scan, all_below, all_chosen, all_cold, all_rows, all_stirring};
 use crate::nexts::next_in;
 use crate::order::Order;
 use crate::plain::Kind;
-use load_model::{Case, LoadBook, Memory};
-use move_actions::{Action, Goal};
+use load_model::{Case, LoadBook};
+use move_actions::Goal;
+use plan_terms::{Action, Memory};
 use std::alloc::Global;
+use std::thread::Threads;
+
+// Whether no broker lies outside its bounds. Then no action is left.
+fn is_at_rest<G: Goal>(case: &Case, book: &LoadBook, earlier: &[G], goal: &G, scan: &Scan) -> bool
+    requires made_goal { G.made_for goal.now case.now }
+    requires belongs { IsBookOf case.now book.now }
+    requires scan { IsScanFor G.Goal case.now book.now.lists earlier.now goal.now scan.now }
+    ensures { IsTrue result → NoneLeftFor G.Goal case.now book.now.lists earlier.now goal.now }
+{
+    let _brokers = case.brokers();
+    let _lists = book.lists();
+    let _goals = earlier.len();
+    let rows = scan.rows.as_slice();
+    all_cold(rows)
+}
+
+// Whether there is no partition whose actions may help the goal. Then no action is left.
+fn is_still<G: Goal>(
+    case: &Case,
+    book: &LoadBook,
+    earlier: &[G],
+    goal: &G,
+    stirring: &[u32],
+) -> bool
+    requires made_goal { G.made_for goal.now case.now }
+    requires belongs { IsBookOf case.now book.now }
+    requires stirring { AreStirring (G.stirs_at goal.now case.now book.now.lists) case.now.parts
+        stirring.now }
+    ensures { IsTrue result → NoneLeftFor G.Goal case.now book.now.lists earlier.now goal.now }
+{
+    let _brokers = case.brokers();
+    let _lists = book.lists();
+    let _goals = earlier.len();
+    stirring.is_empty()
+}
 
 // The first candidate that serves, by what is known of the brokers.
-fn first_candidate<G: Goal>(
+fn first_candidate<G: Goal + Sync, R: Threads + Sync>(
+    rt: &R,
     case: &Case,
     book: &LoadBook,
     order: &Order,
@@ -28,25 +64,21 @@ fn first_candidate<G: Goal>(
     requires made_goal { G.made_for goal.now case.now }
     requires belongs { IsBookOf case.now book.now }
     requires order { IsOrderOf case.now book.now.lists order.now }
-    requires scan { IsScan G.weighs (λ g. G.room_at g case.now book.now.lists) (G.heat_at goal.now case.now book.now.lists) (G.stirs_at goal.now case.now book.now.lists) earlier.now case.now scan.now }
-    ensures { MatchOption result
-        (NoneLeft case.now (map (λ g. G.meaning g case.now) earlier.now) (G.meaning goal.now case.now) book.now.lists)
-        (λ a. FirstStep case.now (map (λ g. G.meaning g case.now) earlier.now) (G.meaning goal.now case.now) book.now.lists a) }
+    requires scan { IsScanFor G.Goal case.now book.now.lists earlier.now goal.now scan.now }
+    ensures { FindsNext G.Goal case.now book.now.lists earlier.now goal.now result }
 {
-    let _brokers = case.brokers();
-    let rows = scan.rows.as_slice();
-    if all_cold(rows) {
+    if is_at_rest(case, book, earlier, goal, scan) {
         return None;
     }
-    let next_move = next_in(Kind::Moves, case, book, order, earlier, goal, scan);
+    let next_move = next_in(rt, Kind::Moves, case, book, order, earlier, goal, scan);
     if let Some(action) = next_move {
         return Some(action);
     }
-    let next_lead = next_in(Kind::Leads, case, book, order, earlier, goal, scan);
+    let next_lead = next_in(rt, Kind::Leads, case, book, order, earlier, goal, scan);
     if let Some(action) = next_lead {
         return Some(action);
     }
-    let next_swap = next_in(Kind::Swaps, case, book, order, earlier, goal, scan);
+    let next_swap = next_in(rt, Kind::Swaps, case, book, order, earlier, goal, scan);
     if let Some(action) = next_swap {
         return Some(action);
     }
@@ -54,8 +86,9 @@ fn first_candidate<G: Goal>(
 }
 
 /// The first action of the list of candidates that each earlier goal accepts and that lessens the goal. `None` comes exactly
-/// where no legal action does.
-pub fn next_lessening<G: Goal>(
+/// where no legal action does. The swaps of a broker with many replicas are looked for by threads, with the same answer.
+pub fn next_lessening<G: Goal + Sync, R: Threads + Sync>(
+    rt: &R,
     alloc: Global,
     case: &Case,
     book: &LoadBook,
@@ -70,13 +103,11 @@ pub fn next_lessening<G: Goal>(
     requires order { IsOrderOf case.now book.now.lists order.now }
     requires weights { AreWeights G.weighs earlier.now case.now.parts scan.old.weights.items }
     ensures weights { AreWeights G.weighs earlier.now case.now.parts scan.new.weights.items }
-    ensures next { IfOk result (λ next. MatchOption next
-        (NoneLeft case.now (map (λ g. G.meaning g case.now) earlier.now) (G.meaning goal.now case.now) book.now.lists)
-        (λ a. FirstStep case.now (map (λ g. G.meaning g case.now) earlier.now) (G.meaning goal.now case.now) book.now.lists a)) }
+    ensures next { IfOk result
+        (λ next. FindsNext G.Goal case.now book.now.lists earlier.now goal.now next) }
 {
-    let _brokers = case.brokers();
     scan.stirring = all_stirring(alloc, case, book, goal)?;
-    if scan.stirring.is_empty() {
+    if is_still(case, book, earlier, goal, &scan.stirring) {
         return Ok(None);
     }
     scan.rows = all_rows(alloc, case, book, earlier, goal)?;
@@ -90,5 +121,5 @@ pub fn next_lessening<G: Goal>(
         scan.rows.as_slice(),
         Choice::New,
     )?;
-    Ok(first_candidate(case, book, order, earlier, goal, scan))
+    Ok(first_candidate(rt, case, book, order, earlier, goal, scan))
 }

@@ -1,24 +1,24 @@
 // The first candidate of one kind that serves.
-ghost use Rattle.std.specs.Prelude.{◌≡◌, ◌<◌, ℕ, MatchOption, map, length};
+ghost use Rattle.std.specs.Prelude.{◌≡◌, ◌<◌, length};
 ghost use Rattle.std.specs.List.{All, flat_map};
-ghost use Rattle.candidate_order.specs.CandidateList.{candidates_at, candidates_in, NoStep};
-ghost use Rattle.candidate_order.specs.First.{IsFirst};
+ghost use Rattle.candidate_order.specs.CandidateList.{candidates_at, candidates_in};
+ghost use Rattle.candidate_order.specs.Known.{FindsFirst, IsRowFor, IsScanFor};
 ghost use Rattle.candidate_order.specs.Looks.{weighs_nothing};
 ghost use Rattle.candidate_order.specs.Order.{IsOrderOf};
-ghost use Rattle.candidate_order.specs.Scan.{IsRow, IsScan};
 ghost use Rattle.candidate_order.specs.declared.plain.Kind.TheVariants as kind;
 ghost use Rattle.plan_terms.specs.Belongs.{IsBookOf};
-ghost use Rattle.plan_terms.specs.Trace.{Step};
 
+use crate::blocks::{BLOCK, Search, first_by_blocks};
 use crate::kept::{Row, Scan, column};
 use crate::leads::first_lead;
 use crate::order::Order;
 use crate::plain::Kind;
-use crate::ranks::is_first;
 use crate::rows::first_anywhere;
 use crate::swaps::first_swap;
 use load_model::{Case, LoadBook};
-use move_actions::{Action, Goal};
+use move_actions::Goal;
+use plan_terms::{Action, leads};
+use std::thread::Threads;
 
 // Whether the goal has a quantity, and nothing of it goes.
 fn weighs_nothing(own: Option<u64>) -> bool
@@ -40,19 +40,18 @@ fn first_move<G: Goal>(
     requires made { All (λ g. G.made_for g case.now) earlier.now }
     requires made_goal { G.made_for goal.now case.now }
     requires belongs { IsBookOf case.now book.now }
-    requires scan { IsScan G.weighs (λ g. G.room_at g case.now book.now.lists) (G.heat_at goal.now case.now book.now.lists) (G.stirs_at goal.now case.now book.now.lists) earlier.now case.now scan.now }
+    requires scan { IsScanFor G.Goal case.now book.now.lists earlier.now goal.now scan.now }
     requires part { part < length case.now.parts }
-    requires source { IsRow G.weighs (λ g. G.room_at g case.now book.now.lists) (G.heat_at goal.now case.now book.now.lists) earlier.now source.now }
-    ensures { MatchOption result
-        (NoStep case.now (map (λ g. G.meaning g case.now) earlier.now) (G.meaning goal.now case.now) book.now.lists (candidates_at kind.Moves case.now book.now.lists source.now.id part))
-        (λ a. IsFirst (Step case.now (map (λ g. G.meaning g case.now) earlier.now) (G.meaning goal.now case.now) book.now.lists) (candidates_at kind.Moves case.now book.now.lists source.now.id part) a) }
+    requires source { IsRowFor G.Goal case.now book.now.lists earlier.now goal.now source.now }
+    ensures { FindsFirst G.Goal case.now book.now.lists earlier.now goal.now
+        (candidates_at kind.Moves case.now book.now.lists source.now.id part) result }
 {
     let _brokers = case.brokers();
     let _lists = book.lists();
     if !goal.stirs(case, book, part) {
         return None;
     }
-    let first = is_first(book.list(part as usize), source.id);
+    let first = leads(book.list(part as usize), source.id);
     let own = goal.weight(case, part, first);
     if weighs_nothing(own) {
         return None;
@@ -74,16 +73,15 @@ fn first_lead_from<G: Goal>(
     requires made { All (λ g. G.made_for g case.now) earlier.now }
     requires made_goal { G.made_for goal.now case.now }
     requires belongs { IsBookOf case.now book.now }
-    requires scan { IsScan G.weighs (λ g. G.room_at g case.now book.now.lists) (G.heat_at goal.now case.now book.now.lists) (G.stirs_at goal.now case.now book.now.lists) earlier.now case.now scan.now }
+    requires scan { IsScanFor G.Goal case.now book.now.lists earlier.now goal.now scan.now }
     requires part { part < length case.now.parts }
-    requires source { IsRow G.weighs (λ g. G.room_at g case.now book.now.lists) (G.heat_at goal.now case.now book.now.lists) earlier.now source.now }
-    ensures { MatchOption result
-        (NoStep case.now (map (λ g. G.meaning g case.now) earlier.now) (G.meaning goal.now case.now) book.now.lists (candidates_at kind.Leads case.now book.now.lists source.now.id part))
-        (λ a. IsFirst (Step case.now (map (λ g. G.meaning g case.now) earlier.now) (G.meaning goal.now case.now) book.now.lists) (candidates_at kind.Leads case.now book.now.lists source.now.id part) a) }
+    requires source { IsRowFor G.Goal case.now book.now.lists earlier.now goal.now source.now }
+    ensures { FindsFirst G.Goal case.now book.now.lists earlier.now goal.now
+        (candidates_at kind.Leads case.now book.now.lists source.now.id part) result }
 {
     let _brokers = case.brokers();
     let _lists = book.lists();
-    if !is_first(book.list(part as usize), source.id) {
+    if !leads(book.list(part as usize), source.id) {
         return None;
     }
     if !goal.stirs(case, book, part) {
@@ -93,7 +91,7 @@ fn first_lead_from<G: Goal>(
 }
 
 // The first candidate of one kind for one replica that serves.
-fn first_at<G: Goal>(
+pub(crate) fn first_at<G: Goal>(
     kind: Kind,
     case: &Case,
     book: &LoadBook,
@@ -108,12 +106,11 @@ fn first_at<G: Goal>(
     requires made_goal { G.made_for goal.now case.now }
     requires belongs { IsBookOf case.now book.now }
     requires order { IsOrderOf case.now book.now.lists order.now }
-    requires scan { IsScan G.weighs (λ g. G.room_at g case.now book.now.lists) (G.heat_at goal.now case.now book.now.lists) (G.stirs_at goal.now case.now book.now.lists) earlier.now case.now scan.now }
+    requires scan { IsScanFor G.Goal case.now book.now.lists earlier.now goal.now scan.now }
     requires part { part < length case.now.parts }
-    requires source { IsRow G.weighs (λ g. G.room_at g case.now book.now.lists) (G.heat_at goal.now case.now book.now.lists) earlier.now source.now }
-    ensures { MatchOption result
-        (NoStep case.now (map (λ g. G.meaning g case.now) earlier.now) (G.meaning goal.now case.now) book.now.lists (candidates_at kind case.now book.now.lists source.now.id part))
-        (λ a. IsFirst (Step case.now (map (λ g. G.meaning g case.now) earlier.now) (G.meaning goal.now case.now) book.now.lists) (candidates_at kind case.now book.now.lists source.now.id part) a) }
+    requires source { IsRowFor G.Goal case.now book.now.lists earlier.now goal.now source.now }
+    ensures { FindsFirst G.Goal case.now book.now.lists earlier.now goal.now
+        (candidates_at kind case.now book.now.lists source.now.id part) result }
 {
     match kind {
         Kind::Moves => first_move(case, book, earlier, goal, scan, part, source),
@@ -122,8 +119,16 @@ fn first_at<G: Goal>(
     }
 }
 
-// The first candidate of one kind for one broker's replicas that serves.
-fn first_of<G: Goal>(
+// Whether threads would pay: a replica has a swap with every other, unless swaps aren't legal at all.
+fn pay_threads(kind: Kind, case: &Case, replicas: &[u32]) -> bool {
+    let may_swap = !case.options().leads_only && !case.any_new();
+    matches!(kind, Kind::Swaps) && may_swap && replicas.len() >= BLOCK
+}
+
+// The first candidate of one kind for one broker's replicas that serves. Of many replicas, swaps are looked for by threads: a replica has a
+// swap with each of the others.
+fn first_of<G: Goal + Sync, R: Threads + Sync>(
+    rt: &R,
     kind: Kind,
     case: &Case,
     book: &LoadBook,
@@ -138,13 +143,25 @@ fn first_of<G: Goal>(
     requires made_goal { G.made_for goal.now case.now }
     requires belongs { IsBookOf case.now book.now }
     requires order { IsOrderOf case.now book.now.lists order.now }
-    requires scan { IsScan G.weighs (λ g. G.room_at g case.now book.now.lists) (G.heat_at goal.now case.now book.now.lists) (G.stirs_at goal.now case.now book.now.lists) earlier.now case.now scan.now }
-    requires source { IsRow G.weighs (λ g. G.room_at g case.now book.now.lists) (G.heat_at goal.now case.now book.now.lists) earlier.now source.now }
+    requires scan { IsScanFor G.Goal case.now book.now.lists earlier.now goal.now scan.now }
+    requires source { IsRowFor G.Goal case.now book.now.lists earlier.now goal.now source.now }
     requires within { All (λ p. p < length case.now.parts) replicas.now }
-    ensures { MatchOption result
-        (NoStep case.now (map (λ g. G.meaning g case.now) earlier.now) (G.meaning goal.now case.now) book.now.lists (flat_map (candidates_at kind case.now book.now.lists source.now.id) replicas.now))
-        (λ a. IsFirst (Step case.now (map (λ g. G.meaning g case.now) earlier.now) (G.meaning goal.now case.now) book.now.lists) (flat_map (candidates_at kind case.now book.now.lists source.now.id) replicas.now) a) }
+    ensures { FindsFirst G.Goal case.now book.now.lists earlier.now goal.now
+        (flat_map (candidates_at kind case.now book.now.lists source.now.id) replicas.now) result }
 {
+    if pay_threads(kind, case, replicas) {
+        let search = Search {
+            kind,
+            case,
+            book,
+            order,
+            earlier,
+            goal,
+            scan,
+            source,
+        };
+        return first_by_blocks(rt, &search, replicas);
+    }
     for part in replicas {
         let found = first_at(kind, case, book, order, earlier, goal, scan, *part, source);
         if let Some(action) = found {
@@ -155,7 +172,8 @@ fn first_of<G: Goal>(
 }
 
 /// The first candidate of one kind that serves.
-pub fn next_in<G: Goal>(
+pub fn next_in<G: Goal + Sync, R: Threads + Sync>(
+    rt: &R,
     kind: Kind,
     case: &Case,
     book: &LoadBook,
@@ -168,16 +186,15 @@ pub fn next_in<G: Goal>(
     requires made_goal { G.made_for goal.now case.now }
     requires belongs { IsBookOf case.now book.now }
     requires order { IsOrderOf case.now book.now.lists order.now }
-    requires scan { IsScan G.weighs (λ g. G.room_at g case.now book.now.lists) (G.heat_at goal.now case.now book.now.lists) (G.stirs_at goal.now case.now book.now.lists) earlier.now case.now scan.now }
-    ensures { MatchOption result
-        (NoStep case.now (map (λ g. G.meaning g case.now) earlier.now) (G.meaning goal.now case.now) book.now.lists (candidates_in kind case.now book.now.lists))
-        (λ a. IsFirst (Step case.now (map (λ g. G.meaning g case.now) earlier.now) (G.meaning goal.now case.now) book.now.lists) (candidates_in kind case.now book.now.lists) a) }
+    requires scan { IsScanFor G.Goal case.now book.now.lists earlier.now goal.now scan.now }
+    ensures { FindsFirst G.Goal case.now book.now.lists earlier.now goal.now
+        (candidates_in kind case.now book.now.lists) result }
 {
     let rows = scan.rows.as_slice();
     for (k, source) in rows.iter().enumerate() {
         let replicas = order.row(k);
         let found = first_of(
-            kind, case, book, order, earlier, goal, scan, source, replicas,
+            rt, kind, case, book, order, earlier, goal, scan, source, replicas,
         );
         if let Some(action) = found {
             return Some(action);

@@ -4,16 +4,15 @@ ghost use Rattle.std.specs.List.{All};
 ghost use Rattle.candidate_order.specs.CandidateList.{disk_of, replicas_of};
 ghost use Rattle.candidate_order.specs.Order.{AreReplicasOf, IsOrderOf};
 ghost use Rattle.candidate_order.specs.Ranks.{IsPut, IsTaken, IsTraded};
-ghost use Rattle.goal_terms.specs.PerBroker.{id_at};
 ghost use Rattle.plan_terms.specs.Belongs.{IsBookOf};
-ghost use Rattle.plan_terms.specs.Cluster.{list_of, has, is_known};
+ghost use Rattle.plan_terms.specs.Cluster.{list_of, has, is_known, id_at};
 ghost use Rattle.plan_terms.specs.Effect.{after};
 ghost use Rattle.plan_terms.specs.Fits.{fits, targets_known};
 ghost use Rattle.plan_terms.specs.declared.actions.Action.{Action};
 
-use crate::ranks::{Ranked, disk, gain_in, is_first, is_member, put_in, take_out, trade_in};
-use load_model::{Case, LoadBook, Memory};
-use move_actions::Action;
+use crate::ranks::{Ranked, disk, gain_in, put_in, take_out, trade_in};
+use load_model::{Case, LoadBook};
+use plan_terms::{Action, Memory, has, leads};
 use std::alloc::Global;
 use std::marker::Model;
 
@@ -22,7 +21,8 @@ pub(crate) fn broker_place(case: &Case, broker: u32) -> usize
     requires { IsTrue (is_known case.now broker) }
     ensures within { result < length case.now.brokers }
     ensures id { id_at case.now.brokers result ≡ broker }
-    ensures only { (k : ℕ) → k < length case.now.brokers → id_at case.now.brokers k ≡ broker → k ≡ result }
+    ensures only { (k : ℕ) → k < length case.now.brokers → id_at case.now.brokers k ≡ broker
+        → k ≡ result }
 {
     match case.place(broker) {
         Some(place) => place,
@@ -54,8 +54,8 @@ fn row_for(alloc: Global, case: &Case, book: &LoadBook, broker: u32) -> Result<R
     let end = book.lists().len() as u32;
     for part in 0..end {
         let list = book.list(part as usize);
-        if is_member(list, broker) {
-            let weight = disk(case, part, is_first(list, broker));
+        if has(list, broker) {
+            let weight = disk(case, part, leads(list, broker));
             put_in(case, book, broker, &mut row, part, weight);
         }
     }
@@ -109,7 +109,8 @@ impl Order {
         requires old { AreReplicasOf case.now book.now.lists broker (get_or self.old place []) }
         requires new { has (list_of book.now.lists part) broker ≡ false }
         ensures others { self.new ≡ slice_set self.old place (get_or self.new place []) }
-        ensures row { IsPut (disk_of case.now book.now.lists broker) weight part (get_or self.old place []) (get_or self.new place []) }
+        ensures row { IsPut (disk_of case.now book.now.lists broker) weight part
+            (get_or self.old place []) (get_or self.new place []) }
     {
         gain_in(case, book, broker, &mut self.rows[place], part, weight);
     }
@@ -131,7 +132,8 @@ impl Order {
         requires member { IsTrue (has (get_or self.old place []) gone) }
         requires new { (has (get_or self.old place []) part ≡ false) ⊎ (part ≡ gone) }
         ensures others { self.new ≡ slice_set self.old place (get_or self.new place []) }
-        ensures row { IsTraded (disk_of case.now book.now.lists broker) gone weight part (get_or self.old place []) (get_or self.new place []) }
+        ensures row { IsTraded (disk_of case.now book.now.lists broker) gone weight part
+            (get_or self.old place []) (get_or self.new place []) }
     {
         trade_in(
             case,
@@ -153,7 +155,7 @@ impl Order {
         ensures { IsOrderOf case.now (after (Action.Move part from to) book.now.lists) self.new }
     {
         let _lists = book.lists();
-        let first = is_first(book.list(part as usize), from);
+        let first = leads(book.list(part as usize), from);
         let giver = broker_place(case, from);
         let taker = broker_place(case, to);
         self.lose(giver, part);
@@ -191,11 +193,12 @@ impl Order {
         requires belongs { IsBookOf case.now book.now }
         requires order { IsOrderOf case.now book.now.lists self.old }
         requires applies { IsTrue (fits book.now.lists (Action.Swap part from other to)) }
-        ensures { IsOrderOf case.now (after (Action.Swap part from other to) book.now.lists) self.new }
+        ensures { IsOrderOf case.now (after (Action.Swap part from other to) book.now.lists)
+            self.new }
     {
         let _lists = book.lists();
-        let first = is_first(book.list(part as usize), from);
-        let other_first = is_first(book.list(other as usize), to);
+        let first = leads(book.list(part as usize), from);
+        let other_first = leads(book.list(other as usize), to);
         let giver = broker_place(case, from);
         let taker = broker_place(case, to);
         let back = disk(case, other, other_first);

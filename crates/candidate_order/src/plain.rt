@@ -1,14 +1,16 @@
 // The plain scan: every legal action in order, up to the first that serves.
-ghost use Rattle.std.specs.Prelude.{◌≡◌, ◌≤◌, ◌↔◌, true, IsTrue, IfOk, MatchOption, map, length};
+ghost use Rattle.std.specs.Prelude.{◌≡◌, ◌↔◌, true, IsTrue, IfOk, MatchOption, map, length};
 ghost use Rattle.std.specs.List.{All, filter};
 ghost use Rattle.plan_terms.specs.Belongs.{IsBookOf};
 ghost use Rattle.plan_terms.specs.Fits.{fits, targets_known};
 ghost use Rattle.plan_terms.specs.Legal.{is_legal};
-ghost use Rattle.plan_terms.specs.Trace.{AllAccept, IsUnhelpful, NoneLeft, Step};
+ghost use Rattle.plan_terms.specs.Trace.{AllAccept, IsUnhelpful};
 ghost use Rattle.candidate_order.specs.Kinds.{candidates_of, legal_below};
+ghost use Rattle.candidate_order.specs.Known.{NoneLeftFor, StepFor};
 
-use load_model::{Case, LoadBook, Memory};
-use move_actions::{Action, Goal, legal_leads, legal_moves, legal_swaps};
+use load_model::{Case, LoadBook};
+use move_actions::{Goal, legal_leads, legal_moves, legal_swaps};
+use plan_terms::{Action, Memory};
 use std::alloc::Global;
 
 /// The kinds of action.
@@ -25,7 +27,8 @@ pub fn all_accept<G: Goal>(case: &Case, book: &LoadBook, earlier: &[G], action: 
     requires belongs { IsBookOf case.now book.now }
     requires applies { IsTrue (fits book.now.lists action) }
     requires known { IsTrue (targets_known case.now action) }
-    ensures { IsTrue result ↔ AllAccept (map (λ g. G.meaning g case.now) earlier.now) book.now.lists action }
+    ensures { IsTrue result
+        ↔ AllAccept (map (λ g. G.meaning g case.now) earlier.now) book.now.lists action }
 {
     for goal in earlier {
         if !goal.accepts(case, book, action) {
@@ -48,8 +51,10 @@ fn first_step<G: Goal>(
     requires belongs { IsBookOf case.now book.now }
     requires legal { All (λ a. is_legal case.now book.now.lists a ≡ true) actions.now }
     ensures { MatchOption result
-        (All (IsUnhelpful (map (λ g. G.meaning g case.now) earlier.now) (G.meaning goal.now case.now) book.now.lists) actions.now)
-        (λ a. Step case.now (map (λ g. G.meaning g case.now) earlier.now) (G.meaning goal.now case.now) book.now.lists a) }
+        (All
+        (IsUnhelpful (map (λ g. G.meaning g case.now) earlier.now) (G.meaning goal.now case.now)
+        book.now.lists) actions.now)
+        (λ a. StepFor G.Goal case.now book.now.lists earlier.now goal.now a) }
 {
     for action in actions {
         if goal.lessens(case, book, *action) && all_accept(case, book, earlier, *action) {
@@ -67,7 +72,10 @@ fn legal_of(
     book: &LoadBook,
     part: u32,
 ) -> Result<Vec<Action>, Memory>
-    ensures { IfOk result (λ v. v.items ≡ filter (is_legal case.now book.now.lists) (candidates_of kind case.now.brokers (length book.now.lists) part)) }
+    ensures { IfOk result
+        (λ v. v.items
+        ≡ filter (is_legal case.now book.now.lists)
+        (candidates_of kind case.now.brokers (length book.now.lists) part)) }
 {
     match kind {
         Kind::Moves => legal_moves(alloc, case, book.lists(), part),
@@ -88,9 +96,14 @@ fn next_of_kind<G: Goal>(
     requires made { All (λ g. G.made_for g case.now) earlier.now }
     requires made_goal { G.made_for goal.now case.now }
     requires belongs { IsBookOf case.now book.now }
-    ensures { IfOk result (λ next. MatchOption next
-        (All (IsUnhelpful (map (λ g. G.meaning g case.now) earlier.now) (G.meaning goal.now case.now) book.now.lists) (legal_below kind case.now book.now.lists (length book.now.lists) (length book.now.lists)))
-        (λ a. Step case.now (map (λ g. G.meaning g case.now) earlier.now) (G.meaning goal.now case.now) book.now.lists a)) }
+    ensures { IfOk result
+        (λ next. MatchOption next
+        (All
+        (IsUnhelpful (map (λ g. G.meaning g case.now) earlier.now)
+        (G.meaning goal.now case.now) book.now.lists)
+        (legal_below kind case.now book.now.lists (length book.now.lists)
+        (length book.now.lists)))
+        (λ a. StepFor G.Goal case.now book.now.lists earlier.now goal.now a)) }
 {
     let end = book.lists().len() as u32;
     for part in 0..end {
@@ -115,8 +128,8 @@ pub fn plain_next<G: Goal>(
     requires made_goal { G.made_for goal.now case.now }
     requires belongs { IsBookOf case.now book.now }
     ensures { IfOk result (λ next. MatchOption next
-        (NoneLeft case.now (map (λ g. G.meaning g case.now) earlier.now) (G.meaning goal.now case.now) book.now.lists)
-        (λ a. Step case.now (map (λ g. G.meaning g case.now) earlier.now) (G.meaning goal.now case.now) book.now.lists a)) }
+        (NoneLeftFor G.Goal case.now book.now.lists earlier.now goal.now)
+        (λ a. StepFor G.Goal case.now book.now.lists earlier.now goal.now a)) }
 {
     let next_move = next_of_kind(alloc, Kind::Moves, case, book, earlier, goal)?;
     if let Some(action) = next_move {

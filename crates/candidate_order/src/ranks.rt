@@ -7,31 +7,16 @@ ghost use Rattle.candidate_order.specs.Ranks.{IsAhead, IsPlaceFor, IsPut, IsTake
 ghost use Rattle.goal_terms.specs.Quantity.{part_weight, load_weights};
 ghost use Rattle.plan_terms.specs.Belongs.{IsBookOf};
 ghost use Rattle.plan_terms.specs.Cluster.{list_of, has, leads};
+ghost use Rattle.plan_terms.specs.Resources.{DISK};
 
-use load_model::{Case, LoadBook, Memory};
+use load_model::{Case, LoadBook};
 use move_actions::place_of;
+use plan_terms::{Memory, leads, resources};
 use std::alloc::Global;
 use std::marker::Model;
 
 /// The greatest number of partitions of a case.
 const MAX_PARTS: usize = 10_000;
-
-// Whether a broker is the first member.
-pub(crate) fn is_first(list: &[u32], broker: u32) -> bool
-    ensures { result ≡ leads list.now broker }
-{
-    match list {
-        [] => false,
-        [first, ..] => *first == broker,
-    }
-}
-
-// Whether a broker is a member.
-pub(crate) fn is_member(list: &[u32], broker: u32) -> bool
-    ensures { result ≡ has list.now broker }
-{
-    list.contains(&broker)
-}
 
 /// The partitions of one broker's replicas, in order. There is room for each partition, so that none is refused.
 #[derive(Drop)]
@@ -89,13 +74,13 @@ impl Ranked {
 // What a place of a partition adds to a broker's DISK load.
 pub(crate) fn disk(case: &Case, part: u32, leads: bool) -> u64
     requires { part < length case.now.parts }
-    ensures { result ≡ part_weight (load_weights 3) case.now.parts part leads }
+    ensures { result ≡ part_weight (load_weights DISK) case.now.parts part leads }
 {
     let loads = &case.parts()[part as usize].loads;
     if leads {
-        loads.lead[3]
+        loads.lead[resources::DISK]
     } else {
-        loads.follow[3]
+        loads.follow[resources::DISK]
     }
 }
 
@@ -106,7 +91,7 @@ fn disk_at(case: &Case, book: &LoadBook, broker: u32, part: u32) -> u64
     ensures { result ≡ disk_of case.now book.now.lists broker part }
 {
     let _lists = book.lists();
-    let first = is_first(book.list(part as usize), broker);
+    let first = leads(book.list(part as usize), broker);
     disk(case, part, first)
 }
 

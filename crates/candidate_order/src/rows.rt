@@ -1,25 +1,24 @@
 // The first move of a replica that serves.
-ghost use Rattle.std.specs.Prelude.{◌≡◌, ◌<◌, ◌↔◌, ℕ, true, false, IsTrue, IfNone, MatchOption, option_map, map, length};
+ghost use Rattle.std.specs.Prelude.{◌≡◌, ◌<◌, ◌↔◌, ℕ, true, false, IsTrue, IfNone, map, length};
 ghost use Rattle.std.specs.List.{All};
-ghost use Rattle.candidate_order.specs.CandidateList.{moves_of_replica, NoStep};
-ghost use Rattle.candidate_order.specs.First.{IsFirst};
-ghost use Rattle.candidate_order.specs.Looks.{helps_below_alone, look_weight, may_help};
-ghost use Rattle.candidate_order.specs.Scan.{IsRow, IsScan};
+ghost use Rattle.candidate_order.specs.CandidateList.{moves_of_replica};
+ghost use Rattle.candidate_order.specs.Known.{FindsFirst, IsRowFor, IsScanFor, StepFor, weight_for, weights_for};
+ghost use Rattle.candidate_order.specs.Looks.{helps_below_alone, may_help};
 ghost use Rattle.candidate_order.specs.declared.kept.Row.{Row};
-ghost use Rattle.goal_terms.specs.Quantity.{part_weight};
 ghost use Rattle.plan_terms.specs.Belongs.{IsBookOf};
-ghost use Rattle.plan_terms.specs.Cluster.{Lists, list_of, leads, some_broker};
+ghost use Rattle.plan_terms.specs.Cluster.{Lists, some_broker};
 ghost use Rattle.plan_terms.specs.Fits.{fits, targets_known};
 ghost use Rattle.plan_terms.specs.Goal.{Accepts};
 ghost use Rattle.plan_terms.specs.Legal.{is_legal};
 ghost use Rattle.plan_terms.specs.States.{is_new};
-ghost use Rattle.plan_terms.specs.Trace.{Step};
 ghost use Rattle.plan_terms.specs.declared.actions.Action.{Action};
 
 use crate::kept::{Row, Scan};
 use crate::looks::{all_pass, may_leave};
+use goal_terms::Heat;
 use load_model::{Case, LoadBook};
-use move_actions::{Action, Goal, Heat, is_lost, legal};
+use move_actions::{Goal, legal};
+use plan_terms::Action;
 
 // Whether a move of that weight can help the goal at all.
 fn may_help(own: Option<u64>, source: Heat, target: Heat) -> bool
@@ -40,7 +39,8 @@ fn other_accepts<G: Goal>(case: &Case, book: &LoadBook, goal: &G, part: u32, act
     requires part { part < length case.now.parts }
     requires applies { IsTrue (fits book.now.lists action) }
     requires known { IsTrue (targets_known case.now action) }
-    ensures { IsTrue result ↔ IfNone (G.weighs goal.now) (Accepts (G.meaning goal.now case.now) book.now.lists action) }
+    ensures { IsTrue result
+        ↔ IfNone (G.weighs goal.now) (Accepts (G.meaning goal.now case.now) book.now.lists action) }
 {
     match goal.weight(case, part, false) {
         Some(_) => true,
@@ -61,7 +61,9 @@ pub(crate) fn others_accept<G: Goal>(
     requires part { part < length case.now.parts }
     requires applies { IsTrue (fits book.now.lists action) }
     requires known { IsTrue (targets_known case.now action) }
-    ensures { IsTrue result ↔ All (λ g. IfNone (G.weighs g) (Accepts (G.meaning g case.now) book.now.lists action)) earlier.now }
+    ensures { IsTrue result
+        ↔ All (λ g. IfNone (G.weighs g) (Accepts (G.meaning g case.now) book.now.lists action))
+        earlier.now }
 {
     for goal in earlier {
         if !other_accepts(case, book, goal, part, action) {
@@ -87,11 +89,14 @@ fn move_serves<G: Goal>(
     requires made_goal { G.made_for goal.now case.now }
     requires belongs { IsBookOf case.now book.now }
     requires part { part < length case.now.parts }
-    requires source { IsRow G.weighs (λ g. G.room_at g case.now book.now.lists) (G.heat_at goal.now case.now book.now.lists) earlier.now source.now }
-    requires weights { weights.now ≡ map (λ g. look_weight (G.weighs g) case.now.parts part (leads (list_of book.now.lists part) source.now.id)) earlier.now }
-    requires own { own ≡ option_map (λ w. part_weight w case.now.parts part (leads (list_of book.now.lists part) source.now.id)) (G.weighs goal.now) }
-    requires target { IsRow G.weighs (λ g. G.room_at g case.now book.now.lists) (G.heat_at goal.now case.now book.now.lists) earlier.now target.now }
-    ensures { IsTrue result ↔ Step case.now (map (λ g. G.meaning g case.now) earlier.now) (G.meaning goal.now case.now) book.now.lists (Action.Move part source.now.id target.now.id) }
+    requires source { IsRowFor G.Goal case.now book.now.lists earlier.now goal.now source.now }
+    requires weights { weights.now
+        ≡ weights_for G.Goal case.now book.now.lists part source.now.id earlier.now }
+    requires own { own ≡ weight_for G.Goal case.now book.now.lists part source.now.id goal.now }
+    requires target { IsRowFor G.Goal case.now book.now.lists earlier.now goal.now target.now }
+    ensures { IsTrue result
+        ↔ StepFor G.Goal case.now book.now.lists earlier.now goal.now
+        (Action.Move part source.now.id target.now.id) }
 {
     let _brokers = case.brokers();
     let action = Action::Move {
@@ -131,14 +136,14 @@ pub fn first_to<G: Goal>(
     requires made { All (λ g. G.made_for g case.now) earlier.now }
     requires made_goal { G.made_for goal.now case.now }
     requires belongs { IsBookOf case.now book.now }
-    requires rows { All (IsRow G.weighs (λ g. G.room_at g case.now book.now.lists) (G.heat_at goal.now case.now book.now.lists) earlier.now) rows.now }
+    requires rows { All (IsRowFor G.Goal case.now book.now.lists earlier.now goal.now) rows.now }
     requires part { part < length case.now.parts }
-    requires source { IsRow G.weighs (λ g. G.room_at g case.now book.now.lists) (G.heat_at goal.now case.now book.now.lists) earlier.now source.now }
-    requires weights { weights.now ≡ map (λ g. look_weight (G.weighs g) case.now.parts part (leads (list_of book.now.lists part) source.now.id)) earlier.now }
-    requires own { own ≡ option_map (λ w. part_weight w case.now.parts part (leads (list_of book.now.lists part) source.now.id)) (G.weighs goal.now) }
-    ensures { MatchOption result
-        (NoStep case.now (map (λ g. G.meaning g case.now) earlier.now) (G.meaning goal.now case.now) book.now.lists (map (λ (r : Row). Action.Move part source.now.id r.id) rows.now))
-        (λ a. IsFirst (Step case.now (map (λ g. G.meaning g case.now) earlier.now) (G.meaning goal.now case.now) book.now.lists) (map (λ (r : Row). Action.Move part source.now.id r.id) rows.now) a) }
+    requires source { IsRowFor G.Goal case.now book.now.lists earlier.now goal.now source.now }
+    requires weights { weights.now
+        ≡ weights_for G.Goal case.now book.now.lists part source.now.id earlier.now }
+    requires own { own ≡ weight_for G.Goal case.now book.now.lists part source.now.id goal.now }
+    ensures { FindsFirst G.Goal case.now book.now.lists earlier.now goal.now
+        (map (λ (r : Row). Action.Move part source.now.id r.id) rows.now) result }
 {
     if rows.is_empty() {
         return None;
@@ -171,12 +176,14 @@ fn helps_below_alone(own: Option<u64>, source: Heat) -> bool
 
 // Whether a broker may give replicas to brokers that are being added alone: some are, and it isn't lost.
 fn gives_to_new(case: &Case, from: u32) -> bool
-    ensures { result ≡ true → (lists : Lists) (p b : ℕ) → is_legal case.now lists (Action.Move p from b) ≡ true → some_broker (λ x. is_new x.state) case.now b ≡ true }
+    ensures { result ≡ true → (lists : Lists) (p b : ℕ)
+        → is_legal case.now lists (Action.Move p from b) ≡ true
+        → some_broker (λ x. is_new x.state) case.now b ≡ true }
 {
     if !case.any_new() {
         return false;
     }
-    !is_lost(case, from)
+    !case.is_lost(from)
 }
 
 /// The first move of one replica that serves, by the order of the brokers.
@@ -194,14 +201,14 @@ pub fn first_anywhere<G: Goal>(
     requires made { All (λ g. G.made_for g case.now) earlier.now }
     requires made_goal { G.made_for goal.now case.now }
     requires belongs { IsBookOf case.now book.now }
-    requires scan { IsScan G.weighs (λ g. G.room_at g case.now book.now.lists) (G.heat_at goal.now case.now book.now.lists) (G.stirs_at goal.now case.now book.now.lists) earlier.now case.now scan.now }
+    requires scan { IsScanFor G.Goal case.now book.now.lists earlier.now goal.now scan.now }
     requires part { part < length case.now.parts }
-    requires source { IsRow G.weighs (λ g. G.room_at g case.now book.now.lists) (G.heat_at goal.now case.now book.now.lists) earlier.now source.now }
-    requires weights { weights.now ≡ map (λ g. look_weight (G.weighs g) case.now.parts part (leads (list_of book.now.lists part) source.now.id)) earlier.now }
-    requires own { own ≡ option_map (λ w. part_weight w case.now.parts part (leads (list_of book.now.lists part) source.now.id)) (G.weighs goal.now) }
-    ensures { MatchOption result
-        (NoStep case.now (map (λ g. G.meaning g case.now) earlier.now) (G.meaning goal.now case.now) book.now.lists (moves_of_replica case.now source.now.id part))
-        (λ a. IsFirst (Step case.now (map (λ g. G.meaning g case.now) earlier.now) (G.meaning goal.now case.now) book.now.lists) (moves_of_replica case.now source.now.id part) a) }
+    requires source { IsRowFor G.Goal case.now book.now.lists earlier.now goal.now source.now }
+    requires weights { weights.now
+        ≡ weights_for G.Goal case.now book.now.lists part source.now.id earlier.now }
+    requires own { own ≡ weight_for G.Goal case.now book.now.lists part source.now.id goal.now }
+    ensures { FindsFirst G.Goal case.now book.now.lists earlier.now goal.now
+        (moves_of_replica case.now source.now.id part) result }
 {
     let _brokers = case.brokers();
     if gives_to_new(case, source.id) {

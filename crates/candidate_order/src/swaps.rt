@@ -1,25 +1,24 @@
 // The first swap of one replica that serves.
-ghost use Rattle.std.specs.Prelude.{◌≡◌, ◌<◌, ◌↔◌, ℕ, false, true, IsTrue, MatchOption, option_map, map, length};
+ghost use Rattle.std.specs.Prelude.{◌≡◌, ◌<◌, ◌↔◌, ℕ, false, true, IsTrue, map, length};
 ghost use Rattle.std.specs.List.{All};
-ghost use Rattle.candidate_order.specs.CandidateList.{candidates_at, replicas_of, NoStep};
-ghost use Rattle.candidate_order.specs.First.{IsFirst};
-ghost use Rattle.candidate_order.specs.Looks.{look_weight, may_meet, may_swap};
+ghost use Rattle.candidate_order.specs.CandidateList.{candidates_at};
+ghost use Rattle.candidate_order.specs.Known.{FindsFirst, IsRowFor, IsScanFor, StepFor, weight_for, weights_for};
+ghost use Rattle.candidate_order.specs.Looks.{may_meet, may_swap};
 ghost use Rattle.candidate_order.specs.Order.{IsOrderOf};
-ghost use Rattle.candidate_order.specs.Scan.{IsRow, IsScan, AreWeights};
+ghost use Rattle.candidate_order.specs.Scan.{AreWeights};
 ghost use Rattle.candidate_order.specs.declared.plain.Kind.TheVariants as kind;
-ghost use Rattle.goal_terms.specs.Quantity.{part_weight};
 ghost use Rattle.plan_terms.specs.Belongs.{IsBookOf};
 ghost use Rattle.plan_terms.specs.Cluster.{Lists, list_of, leads};
 ghost use Rattle.plan_terms.specs.Legal.{is_legal};
-ghost use Rattle.plan_terms.specs.Trace.{Step};
 ghost use Rattle.plan_terms.specs.declared.actions.Action.{Action};
 
 use crate::kept::{PartWeights, Row, Scan, column, row_of};
 use crate::order::Order;
-use crate::ranks::is_first;
 use crate::trades::trade_serves;
+use goal_terms::Heat;
 use load_model::{Case, LoadBook};
-use move_actions::{Action, Goal, Heat, is_live, is_open};
+use move_actions::{Goal, is_open};
+use plan_terms::{Action, leads};
 
 // Whether a swap of the two brokers can help the goal at all.
 fn may_meet(own: Option<u64>, source: Heat, target: Heat) -> bool
@@ -52,12 +51,13 @@ pub(crate) fn may_swap(own: Option<u64>, back: Option<u64>, source: Heat, target
 // Whether a swap of a broker's replica may be legal at all, whatever it is exchanged for.
 fn may_be_swapped(case: &Case, part: u32, from: u32) -> bool
     requires { part < length case.now.parts }
-    ensures { result ≡ false → (lists : Lists) (q b : ℕ) → is_legal case.now lists (Action.Swap part from q b) ≡ true → ⊥ }
+    ensures { result ≡ false → (lists : Lists) (q b : ℕ)
+        → is_legal case.now lists (Action.Swap part from q b) ≡ true → ⊥ }
 {
     if case.options().leads_only || case.any_new() {
         return false;
     }
-    is_open(case, part) && is_live(case, from)
+    is_open(case, part) && case.is_live(from)
 }
 
 // Whether a swap is legal, each earlier goal accepts it, and it lessens the goal.
@@ -79,19 +79,22 @@ fn swap_serves<G: Goal>(
     requires belongs { IsBookOf case.now book.now }
     requires weights { AreWeights G.weighs earlier.now case.now.parts weights.now }
     requires part { part < length case.now.parts }
-    requires source { IsRow G.weighs (λ g. G.room_at g case.now book.now.lists) (G.heat_at goal.now case.now book.now.lists) earlier.now source.now }
-    requires outs { outs.now ≡ map (λ g. look_weight (G.weighs g) case.now.parts part (leads (list_of book.now.lists part) source.now.id)) earlier.now }
-    requires own { own ≡ option_map (λ w. part_weight w case.now.parts part (leads (list_of book.now.lists part) source.now.id)) (G.weighs goal.now) }
+    requires source { IsRowFor G.Goal case.now book.now.lists earlier.now goal.now source.now }
+    requires outs { outs.now
+        ≡ weights_for G.Goal case.now book.now.lists part source.now.id earlier.now }
+    requires own { own ≡ weight_for G.Goal case.now book.now.lists part source.now.id goal.now }
     requires other { other < length case.now.parts }
-    requires target { IsRow G.weighs (λ g. G.room_at g case.now book.now.lists) (G.heat_at goal.now case.now book.now.lists) earlier.now target.now }
-    ensures { IsTrue result ↔ Step case.now (map (λ g. G.meaning g case.now) earlier.now) (G.meaning goal.now case.now) book.now.lists (Action.Swap part source.now.id other target.now.id) }
+    requires target { IsRowFor G.Goal case.now book.now.lists earlier.now goal.now target.now }
+    ensures { IsTrue result
+        ↔ StepFor G.Goal case.now book.now.lists earlier.now goal.now
+        (Action.Swap part source.now.id other target.now.id) }
 {
     let _brokers = case.brokers();
     let _lists = book.lists();
     if part >= other {
         return false;
     }
-    let first = is_first(book.list(other as usize), target.id);
+    let first = leads(book.list(other as usize), target.id);
     let back = goal.weight(case, other, first);
     if !may_swap(own, back, source.heat, target.heat) {
         return false;
@@ -129,14 +132,14 @@ fn first_with<G: Goal>(
     requires belongs { IsBookOf case.now book.now }
     requires weights { AreWeights G.weighs earlier.now case.now.parts weights.now }
     requires part { part < length case.now.parts }
-    requires source { IsRow G.weighs (λ g. G.room_at g case.now book.now.lists) (G.heat_at goal.now case.now book.now.lists) earlier.now source.now }
-    requires outs { outs.now ≡ map (λ g. look_weight (G.weighs g) case.now.parts part (leads (list_of book.now.lists part) source.now.id)) earlier.now }
-    requires own { own ≡ option_map (λ w. part_weight w case.now.parts part (leads (list_of book.now.lists part) source.now.id)) (G.weighs goal.now) }
-    requires target { IsRow G.weighs (λ g. G.room_at g case.now book.now.lists) (G.heat_at goal.now case.now book.now.lists) earlier.now target.now }
+    requires source { IsRowFor G.Goal case.now book.now.lists earlier.now goal.now source.now }
+    requires outs { outs.now
+        ≡ weights_for G.Goal case.now book.now.lists part source.now.id earlier.now }
+    requires own { own ≡ weight_for G.Goal case.now book.now.lists part source.now.id goal.now }
+    requires target { IsRowFor G.Goal case.now book.now.lists earlier.now goal.now target.now }
     requires others { All (λ q. q < length case.now.parts) others.now }
-    ensures { MatchOption result
-        (NoStep case.now (map (λ g. G.meaning g case.now) earlier.now) (G.meaning goal.now case.now) book.now.lists (map (λ q. Action.Swap part source.now.id q target.now.id) others.now))
-        (λ a. IsFirst (Step case.now (map (λ g. G.meaning g case.now) earlier.now) (G.meaning goal.now case.now) book.now.lists) (map (λ q. Action.Swap part source.now.id q target.now.id) others.now) a) }
+    ensures { FindsFirst G.Goal case.now book.now.lists earlier.now goal.now
+        (map (λ q. Action.Swap part source.now.id q target.now.id) others.now) result }
 {
     let _brokers = case.brokers();
     if !may_meet(own, source.heat, target.heat) {
@@ -173,13 +176,17 @@ fn some_of_serves<G: Goal>(
     requires made { All (λ g. G.made_for g case.now) earlier.now }
     requires made_goal { G.made_for goal.now case.now }
     requires belongs { IsBookOf case.now book.now }
-    requires scan { IsScan G.weighs (λ g. G.room_at g case.now book.now.lists) (G.heat_at goal.now case.now book.now.lists) (G.stirs_at goal.now case.now book.now.lists) earlier.now case.now scan.now }
+    requires scan { IsScanFor G.Goal case.now book.now.lists earlier.now goal.now scan.now }
     requires part { part < length case.now.parts }
-    requires source { IsRow G.weighs (λ g. G.room_at g case.now book.now.lists) (G.heat_at goal.now case.now book.now.lists) earlier.now source.now }
-    requires outs { outs.now ≡ map (λ g. look_weight (G.weighs g) case.now.parts part (leads (list_of book.now.lists part) source.now.id)) earlier.now }
-    requires own { own ≡ option_map (λ w. part_weight w case.now.parts part (leads (list_of book.now.lists part) source.now.id)) (G.weighs goal.now) }
+    requires source { IsRowFor G.Goal case.now book.now.lists earlier.now goal.now source.now }
+    requires outs { outs.now
+        ≡ weights_for G.Goal case.now book.now.lists part source.now.id earlier.now }
+    requires own { own ≡ weight_for G.Goal case.now book.now.lists part source.now.id goal.now }
     requires other { other < length case.now.parts }
-    ensures { result ≡ false → All (λ b. Step case.now (map (λ g. G.meaning g case.now) earlier.now) (G.meaning goal.now case.now) book.now.lists (Action.Swap part source.now.id other b) → ⊥) (list_of book.now.lists other) }
+    ensures { result ≡ false
+        → All
+        (λ b. StepFor G.Goal case.now book.now.lists earlier.now goal.now
+        (Action.Swap part source.now.id other b) → ⊥) (list_of book.now.lists other) }
 {
     let _brokers = case.brokers();
     let _lists = book.lists();
@@ -211,12 +218,18 @@ fn some_stirring_serves<G: Goal>(
     requires made { All (λ g. G.made_for g case.now) earlier.now }
     requires made_goal { G.made_for goal.now case.now }
     requires belongs { IsBookOf case.now book.now }
-    requires scan { IsScan G.weighs (λ g. G.room_at g case.now book.now.lists) (G.heat_at goal.now case.now book.now.lists) (G.stirs_at goal.now case.now book.now.lists) earlier.now case.now scan.now }
+    requires scan { IsScanFor G.Goal case.now book.now.lists earlier.now goal.now scan.now }
     requires part { part < length case.now.parts }
-    requires source { IsRow G.weighs (λ g. G.room_at g case.now book.now.lists) (G.heat_at goal.now case.now book.now.lists) earlier.now source.now }
-    requires outs { outs.now ≡ map (λ g. look_weight (G.weighs g) case.now.parts part (leads (list_of book.now.lists part) source.now.id)) earlier.now }
-    requires own { own ≡ option_map (λ w. part_weight w case.now.parts part (leads (list_of book.now.lists part) source.now.id)) (G.weighs goal.now) }
-    ensures { result ≡ false → All (λ q. All (λ b. Step case.now (map (λ g. G.meaning g case.now) earlier.now) (G.meaning goal.now case.now) book.now.lists (Action.Swap part source.now.id q b) → ⊥) (list_of book.now.lists q)) scan.now.stirring.items }
+    requires source { IsRowFor G.Goal case.now book.now.lists earlier.now goal.now source.now }
+    requires outs { outs.now
+        ≡ weights_for G.Goal case.now book.now.lists part source.now.id earlier.now }
+    requires own { own ≡ weight_for G.Goal case.now book.now.lists part source.now.id goal.now }
+    ensures { result ≡ false
+        → All
+        (λ q. All
+        (λ b. StepFor G.Goal case.now book.now.lists earlier.now goal.now
+        (Action.Swap part source.now.id q b) → ⊥) (list_of book.now.lists q))
+        scan.now.stirring.items }
 {
     let _brokers = case.brokers();
     let _lists = book.lists();
@@ -246,12 +259,15 @@ fn may_serve<G: Goal>(
     requires made { All (λ g. G.made_for g case.now) earlier.now }
     requires made_goal { G.made_for goal.now case.now }
     requires belongs { IsBookOf case.now book.now }
-    requires scan { IsScan G.weighs (λ g. G.room_at g case.now book.now.lists) (G.heat_at goal.now case.now book.now.lists) (G.stirs_at goal.now case.now book.now.lists) earlier.now case.now scan.now }
+    requires scan { IsScanFor G.Goal case.now book.now.lists earlier.now goal.now scan.now }
     requires part { part < length case.now.parts }
-    requires source { IsRow G.weighs (λ g. G.room_at g case.now book.now.lists) (G.heat_at goal.now case.now book.now.lists) earlier.now source.now }
-    requires outs { outs.now ≡ map (λ g. look_weight (G.weighs g) case.now.parts part (leads (list_of book.now.lists part) source.now.id)) earlier.now }
-    requires own { own ≡ option_map (λ w. part_weight w case.now.parts part (leads (list_of book.now.lists part) source.now.id)) (G.weighs goal.now) }
-    ensures { result ≡ false → (q b : ℕ) → Step case.now (map (λ g. G.meaning g case.now) earlier.now) (G.meaning goal.now case.now) book.now.lists (Action.Swap part source.now.id q b) → ⊥ }
+    requires source { IsRowFor G.Goal case.now book.now.lists earlier.now goal.now source.now }
+    requires outs { outs.now
+        ≡ weights_for G.Goal case.now book.now.lists part source.now.id earlier.now }
+    requires own { own ≡ weight_for G.Goal case.now book.now.lists part source.now.id goal.now }
+    ensures { result ≡ false → (q b : ℕ)
+        → StepFor G.Goal case.now book.now.lists earlier.now goal.now
+        (Action.Swap part source.now.id q b) → ⊥ }
 {
     let _brokers = case.brokers();
     let _lists = book.lists();
@@ -279,15 +295,14 @@ pub fn first_swap<G: Goal>(
     requires made_goal { G.made_for goal.now case.now }
     requires belongs { IsBookOf case.now book.now }
     requires order { IsOrderOf case.now book.now.lists order.now }
-    requires scan { IsScan G.weighs (λ g. G.room_at g case.now book.now.lists) (G.heat_at goal.now case.now book.now.lists) (G.stirs_at goal.now case.now book.now.lists) earlier.now case.now scan.now }
+    requires scan { IsScanFor G.Goal case.now book.now.lists earlier.now goal.now scan.now }
     requires part { part < length case.now.parts }
-    requires source { IsRow G.weighs (λ g. G.room_at g case.now book.now.lists) (G.heat_at goal.now case.now book.now.lists) earlier.now source.now }
-    ensures { MatchOption result
-        (NoStep case.now (map (λ g. G.meaning g case.now) earlier.now) (G.meaning goal.now case.now) book.now.lists (candidates_at kind.Swaps case.now book.now.lists source.now.id part))
-        (λ a. IsFirst (Step case.now (map (λ g. G.meaning g case.now) earlier.now) (G.meaning goal.now case.now) book.now.lists) (candidates_at kind.Swaps case.now book.now.lists source.now.id part) a) }
+    requires source { IsRowFor G.Goal case.now book.now.lists earlier.now goal.now source.now }
+    ensures { FindsFirst G.Goal case.now book.now.lists earlier.now goal.now
+        (candidates_at kind.Swaps case.now book.now.lists source.now.id part) result }
 {
     let _lists = book.lists();
-    let first = is_first(book.list(part as usize), source.id);
+    let first = leads(book.list(part as usize), source.id);
     let own = goal.weight(case, part, first);
     let weights = scan.weights.as_slice();
     let outs = column(case, earlier, weights, part, first);

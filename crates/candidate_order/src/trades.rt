@@ -1,15 +1,17 @@
 // What the earlier goals say of any action, by the rooms of its two brokers.
+ghost use Rattle.candidate_order.specs.Known.{StepFor, rooms_for};
 ghost use Rattle.std.specs.Prelude.{◌≡◌, ◌<◌, ◌↔◌, ℕ, IsTrue, map, length, get_or};
 ghost use Rattle.std.specs.List.{All};
-ghost use Rattle.candidate_order.specs.Looks.{look_out, look_back, look_room, BothStay};
+ghost use Rattle.candidate_order.specs.Looks.{look_out, look_back, BothStay};
 ghost use Rattle.goal_terms.specs.Pairs.{giver, taker};
 ghost use Rattle.goal_terms.specs.Rooms.{free, StaysIn};
 ghost use Rattle.plan_terms.specs.Belongs.{IsBookOf};
-ghost use Rattle.plan_terms.specs.Trace.{Step};
 
 use crate::rows::others_accept;
+use goal_terms::Room;
 use load_model::{Case, LoadBook};
-use move_actions::{Action, Goal, Room, legal};
+use move_actions::{Goal, legal};
+use plan_terms::Action;
 
 // Whether a broker that gives and gets so much stays in its room.
 fn stays(room: Room, out: u64, back: u64) -> bool
@@ -23,7 +25,10 @@ pub fn all_stay(outs: &[u64], backs: &[u64], givers: &[Room], takers: &[Room]) -
     requires backs { length outs.now ≡ length backs.now }
     requires givers { length outs.now ≡ length givers.now }
     requires takers { length outs.now ≡ length takers.now }
-    ensures { IsTrue result ↔ ((k : ℕ) → k < length outs.now → BothStay (get_or outs.now k 0) (get_or backs.now k 0) (get_or givers.now k free) (get_or takers.now k free)) }
+    ensures { IsTrue result
+        ↔ ((k : ℕ) → k < length outs.now
+        → BothStay (get_or outs.now k 0) (get_or backs.now k 0) (get_or givers.now k free)
+        (get_or takers.now k free)) }
 {
     for k in 0..outs.len() {
         if !stays(givers[k], outs[k], backs[k]) {
@@ -53,11 +58,15 @@ pub fn trade_serves<G: Goal>(
     requires made_goal { G.made_for goal.now case.now }
     requires belongs { IsBookOf case.now book.now }
     requires part { part < length case.now.parts }
-    requires outs { outs.now ≡ map (λ g. look_out (G.weighs g) case.now.parts book.now.lists action) earlier.now }
-    requires backs { backs.now ≡ map (λ g. look_back (G.weighs g) case.now.parts book.now.lists action) earlier.now }
-    requires givers { givers.now ≡ map (λ g. look_room (G.weighs g) (G.room_at g case.now book.now.lists (giver book.now.lists action))) earlier.now }
-    requires takers { takers.now ≡ map (λ g. look_room (G.weighs g) (G.room_at g case.now book.now.lists (taker action))) earlier.now }
-    ensures { IsTrue result ↔ Step case.now (map (λ g. G.meaning g case.now) earlier.now) (G.meaning goal.now case.now) book.now.lists action }
+    requires outs { outs.now
+        ≡ map (λ g. look_out (G.weighs g) case.now.parts book.now.lists action) earlier.now }
+    requires backs { backs.now
+        ≡ map (λ g. look_back (G.weighs g) case.now.parts book.now.lists action) earlier.now }
+    requires givers { givers.now
+        ≡ rooms_for G.Goal case.now book.now.lists (giver book.now.lists action) earlier.now }
+    requires takers { takers.now
+        ≡ rooms_for G.Goal case.now book.now.lists (taker action) earlier.now }
+    ensures { IsTrue result ↔ StepFor G.Goal case.now book.now.lists earlier.now goal.now action }
 {
     let _brokers = case.brokers();
     if !all_stay(outs, backs, givers, takers) {

@@ -10,7 +10,8 @@ use Rattle.plan_terms.specs.Cluster.{has}
 use Rattle.plan_terms.proofs.MemberLemmas.{list_all-member}
 use Rattle.cap_ledger.specs.declared.entry.Entry.{Entry}
 use Rattle.cap_ledger.specs.Entries.{entered, left, HasEntryRoom, IsEntryCounted}
-use Rattle.cap_ledger.specs.Ledger.{Ledger, entry_of, knows, adding_of, removing_of, gains, differ, one_if, IsKnownList, HasRoom, IsCounted, Enters, IsEmpty}
+use Rattle.plan_terms.specs.Change.{gains, differ}
+use Rattle.cap_ledger.specs.Ledger.{Ledger, entry_of, knows, adding_of, removing_of, one_if, IsKnownList, HasRoom, IsCounted, Enters, IsEmpty}
 use Rattle.cap_ledger.proofs.Find.{brokers_of, find-mapped, found, entry_at, empty_number, empty_known}
 use Rattle.cap_ledger.specs.Entries.{empty_entry}
 

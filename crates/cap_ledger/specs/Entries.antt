@@ -3,7 +3,8 @@ use Rattle.std.specs.Prelude.{◌≡◌, ℕ, ◌+◌, ◌-◌, ◌<◌, ◌≤�
 use Rattle.std.specs.List.Sorted.{IsStrictlyIncreasing}
 use Rattle.plan_terms.specs.Belongs.{distinct}
 use Rattle.cap_ledger.specs.declared.entry.Entry.{Entry}
-use Rattle.cap_ledger.specs.Ledger.{gains, one_if}
+use Rattle.plan_terms.specs.Change.{gains}
+use Rattle.cap_ledger.specs.Ledger.{one_if}
 
 -- the entry of a broker of which nothing is counted
 abbrev pub empty_entry : ℕ → Entry

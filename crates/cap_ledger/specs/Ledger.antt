@@ -1,10 +1,10 @@
 -- How many tasks are in flight, by what they add, remove and move, and which task fits.
-use Rattle.std.specs.Prelude.{◌≡◌, ℕ, ◌+◌, ◌<◌, ◌≤◌, ◌^◌, Bool, true, false, not, ◌==◌, ◌&&◌, ◌||◌, nat_lt, if◌then◌else◌, List, find, Option, is_some}
-use Rattle.std.specs.List.{list_any, list_all}
+use Rattle.std.specs.Prelude.{◌≡◌, ℕ, ◌+◌, ◌<◌, ◌≤◌, ◌^◌, Bool, true, false, not, ◌==◌, ◌&&◌, nat_lt, if◌then◌else◌, List, find, Option, is_some}
+use Rattle.std.specs.List.{list_all}
 use Rattle.std.specs.Option.{option_map_or}
 use Rattle.plan_terms.specs.Belongs.{distinct}
 use Rattle.plan_terms.specs.Cluster.{has}
-use Rattle.plan_terms.specs.Change.{added}
+use Rattle.plan_terms.specs.Change.{added, differ, gains}
 use Rattle.plan_terms.specs.declared.settings.Caps.{Caps}
 use Rattle.cap_ledger.specs.declared.entry.Entry.{Entry}
 
@@ -30,19 +30,11 @@ adding_of l b = option_map_or (λ e. e.adding) (entry_of l.entries b) 0
 unfoldable pub removing_of : Ledger → ℕ → ℕ
 removing_of l b = option_map_or (λ e. e.removing) (entry_of l.entries b) 0
 
--- the second list has broker b and the first hasn't
-abbrev pub gains : List ℕ → List ℕ → ℕ → Bool
-gains before after b = has after b && not (has before b)
-
--- the two lists differ as sets: a task from the one to the other moves replicas, else it changes the leader or the order alone
-abbrev pub differ : List ℕ → List ℕ → Bool
-differ before after = list_any (λ b. not (has before b)) after || list_any (λ b. not (has after b)) before
-
 -- 1 or 0
 abbrev pub one_if : Bool → ℕ
 one_if b = if b then 1 else 0
 
--- a task that moves replicas fits where, of the tasks in flight, fewer than the cap add each broker that it adds, fewer remove
+-- a task whose lists differ moves replicas, another one changes the leader or the order alone; a task that moves replicas fits where, of the tasks in flight, fewer than the cap add each broker that it adds, fewer remove
 -- each that it removes, and fewer move replicas; another task fits where fewer than the cap change a leader alone
 unfoldable pub fits_in : Ledger → Caps → List ℕ → List ℕ → Bool
 fits_in l caps before after =

@@ -8,8 +8,8 @@ ghost use Rattle.cap_ledger.specs.Entries.{empty_entry};
 ghost use Rattle.cap_ledger.specs.Ledger.{entry_of, adding_of, removing_of, fits_in, IsKnownList, HasRoom, IsCounted, Enters, Leaves, IsEmpty};
 
 use crate::entry::{Entry, enter_all, leave_all, one_if};
-use exec_terms::{Caps, differs, has};
-use plan_terms::Memory;
+use exec_terms::differs;
+use plan_terms::{Caps, Memory, has};
 use std::alloc::Global;
 use std::marker::Model;
 
@@ -69,7 +69,8 @@ impl Counts {
 
     // Whether fewer tasks than the cap add each broker that the second list adds to the first.
     fn all_may_gain(&self, cap: u32, before: &[u32], after: &[u32]) -> bool
-        ensures { result ≡ list_all (λ b. nat_lt (adding_of self.now b) cap) (added before.now after.now) }
+        ensures { result
+            ≡ list_all (λ b. nat_lt (adding_of self.now b) cap) (added before.now after.now) }
     {
         after
             .iter()
@@ -79,7 +80,8 @@ impl Counts {
 
     // Whether fewer tasks than the cap remove each broker that the second list leaves out.
     fn all_may_lose(&self, cap: u32, before: &[u32], after: &[u32]) -> bool
-        ensures { result ≡ list_all (λ b. nat_lt (removing_of self.now b) cap) (added after.now before.now) }
+        ensures { result
+            ≡ list_all (λ b. nat_lt (removing_of self.now b) cap) (added after.now before.now) }
     {
         before
             .iter()

@@ -1,10 +1,11 @@
 // What is counted of one broker.
 ghost use Rattle.std.specs.Prelude.{◌≡◌, ◌<◌, ◌≤◌, ◌+◌, ◌^◌, map};
 ghost use Rattle.std.specs.List.{All};
-ghost use Rattle.cap_ledger.specs.Ledger.{gains, one_if};
+ghost use Rattle.plan_terms.specs.Change.{gains};
+ghost use Rattle.cap_ledger.specs.Ledger.{one_if};
 ghost use Rattle.cap_ledger.specs.Entries.{entered, left, HasEntryRoom, IsEntryCounted};
 
-use exec_terms::has;
+use plan_terms::has;
 
 // A broker, and how many tasks in flight add it and remove it.
 #[derive(Clone, Copy)]

@@ -1,5 +1,6 @@
 // The capacity goals by name.
 ghost use Rattle.goal_terms.specs.Goals.{capacity_goal, replica_capacity_goal};
+ghost use Rattle.plan_terms.specs.Resources.{CPU, NW_IN, NW_OUT, DISK};
 ghost use Rattle.std.specs.Prelude.{◌≡◌};
 
 use broker_goals::{
@@ -31,8 +32,9 @@ pub type CpuCapacityGoal = BrokerGoal<Load<Cpu>, WithinCapacity<Cpu>, Hard>;
 /// What the goals mean for a cluster, by the thresholds of its options.
 pub fn meanings()
     ensures replicas { ⟦<ReplicaCapacityGoal as Goal>⟧.meaning ≡ λ _ c. replica_capacity_goal c }
-    ensures cpu { ⟦<CpuCapacityGoal as Goal>⟧.meaning ≡ λ _ c. capacity_goal 0 c }
-    ensures inbound { ⟦<NetworkInboundCapacityGoal as Goal>⟧.meaning ≡ λ _ c. capacity_goal 1 c }
-    ensures outbound { ⟦<NetworkOutboundCapacityGoal as Goal>⟧.meaning ≡ λ _ c. capacity_goal 2 c }
-    ensures disk { ⟦<DiskCapacityGoal as Goal>⟧.meaning ≡ λ _ c. capacity_goal 3 c }
+    ensures cpu { ⟦<CpuCapacityGoal as Goal>⟧.meaning ≡ λ _ c. capacity_goal CPU c }
+    ensures inbound { ⟦<NetworkInboundCapacityGoal as Goal>⟧.meaning ≡ λ _ c. capacity_goal NW_IN c }
+    ensures outbound { ⟦<NetworkOutboundCapacityGoal as Goal>⟧.meaning
+        ≡ λ _ c. capacity_goal NW_OUT c }
+    ensures disk { ⟦<DiskCapacityGoal as Goal>⟧.meaning ≡ λ _ c. capacity_goal DISK c }
 {}

@@ -3,8 +3,6 @@
 #![tactic(auto)]
 
 mod goals;
-#[cfg(test)]
-mod tests;
 
 pub use goals::{
     CpuCapacityGoal, DiskCapacityGoal, NetworkInboundCapacityGoal, NetworkOutboundCapacityGoal,

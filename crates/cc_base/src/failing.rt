@@ -86,9 +86,11 @@ impl<T: Source> Source for Failing<T> {
         ensures fails { IsListed self.old.calls → IsErr result }
         ensures kept { IsListed self.old.calls → self.new.inner ≡ self.old.inner }
         ensures counts { CountsCall self.old.calls self.new.calls }
-        ensures cause { HasCause (⟦<Self as Source>⟧.faults self.old) (⟦<Self as Source>⟧.faults self.new) result }
+        ensures cause { HasCause (⟦<Self as Source>⟧.faults self.old)
+            (⟦<Self as Source>⟧.faults self.new) result }
         ensures fits { IfOk result (λ n. n ≤ length buf.new) }
-        ensures next { IfOk result (λ n. IfSome (T.left self.old.inner) (λ told. IsNext n buf.new told)) }
+        ensures next { IfOk result
+            (λ n. IfSome (T.left self.old.inner) (λ told. IsNext n buf.new told)) }
         ensures left { IfOk result (λ n. T.left self.new.inner ≡ after n (T.left self.old.inner)) }
         ensures failed { OnErr result (T.left self.new.inner ≡ T.left self.old.inner) }
         ensures beside { T.beside self.new.inner ≡ T.beside self.old.inner }
@@ -111,10 +113,12 @@ impl<T: Sink> Sink for Failing<T> {
         ensures fails { IsListed self.old.calls → IsErr result }
         ensures kept { IsListed self.old.calls → self.new.inner ≡ self.old.inner }
         ensures counts { CountsCall self.old.calls self.new.calls }
-        ensures cause { HasCause (⟦<Self as Sink>⟧.faults self.old) (⟦<Self as Sink>⟧.faults self.new) result }
+        ensures cause { HasCause (⟦<Self as Sink>⟧.faults self.old)
+            (⟦<Self as Sink>⟧.faults self.new) result }
         ensures fits { IfOk result (λ n. n ≤ length bytes.now) }
         ensures some { IfOk result (λ n. 0 < length bytes.now → 0 < n) }
-        ensures written { IfOk result (λ n. T.written self.new.inner ≡ appended (T.written self.old.inner) (take n bytes.now)) }
+        ensures written { IfOk result
+            (λ n. T.written self.new.inner ≡ appended (T.written self.old.inner) (take n bytes.now)) }
         ensures failed { OnErr result (T.written self.new.inner ≡ T.written self.old.inner) }
         ensures beside { T.beside self.new.inner ≡ T.beside self.old.inner }
     {
@@ -139,7 +143,8 @@ impl<T: Files> Files for Failing<T> {
         ensures later { ⟦<Self as Files>⟧.faults self.old ≤ ⟦<Self as Files>⟧.faults self.new }
         ensures cause { IsErrOf result FileFault.Failed
             → HasRisen (⟦<Self as Files>⟧.faults self.old) (⟦<Self as Files>⟧.faults self.new) }
-        ensures bytes { IfOk result (λ v. IfSome (T.contents self.old.inner name.now) (λ told. v.items ≡ told)) }
+        ensures bytes { IfOk result
+            (λ v. IfSome (T.contents self.old.inner name.now) (λ told. v.items ≡ told)) }
         ensures long { IfOk result (λ v. length v.items ≤ 67108864) }
         ensures contents { T.contents self.new.inner ≡ T.contents self.old.inner }
         ensures logged { IsLogged (T.log self.old.inner) (T.log self.new.inner) name.now result }

@@ -38,8 +38,10 @@ impl Source for MemorySource {
         ensures full { IfOk result (λ n. IfSome (⟦<Self as Source>⟧.left self.old)
             (λ told. n ≡ min (length told) (length buf.old))) }
         ensures fits { IfOk result (λ n. n ≤ length buf.new) }
-        ensures next { IfOk result (λ n. IfSome (⟦<Self as Source>⟧.left self.old) (λ told. IsNext n buf.new told)) }
-        ensures left { IfOk result (λ n. ⟦<Self as Source>⟧.left self.new ≡ after n (⟦<Self as Source>⟧.left self.old)) }
+        ensures next { IfOk result
+            (λ n. IfSome (⟦<Self as Source>⟧.left self.old) (λ told. IsNext n buf.new told)) }
+        ensures left { IfOk result
+            (λ n. ⟦<Self as Source>⟧.left self.new ≡ after n (⟦<Self as Source>⟧.left self.old)) }
     {
         let rest = &self.bytes[self.at..];
         let n = rest.len().min(buf.len());
@@ -133,7 +135,9 @@ impl MemoryFiles {
 
     // Keeps a name, unless there is no room for it.
     fn note(&mut self, alloc: Global, name: &str) -> Result<(), AllocError>
-        ensures noted { OnOk result (map string_bytes self.new.names.items ≡ map string_bytes self.old.names.items ++ name.now ∷ []) }
+        ensures noted { OnOk result
+            (map string_bytes self.new.names.items
+            ≡ map string_bytes self.old.names.items ++ name.now ∷ []) }
         ensures unnoted { OnErr result (self.new.names.items ≡ self.old.names.items) }
         ensures files { self.new.files ≡ self.old.files }
         ensures faults { self.new.faults ≡ self.old.faults }
@@ -159,13 +163,16 @@ impl Files for MemoryFiles {
     ghost log = { λ m. Some (map string_bytes m.names.items) };
 
     fn load(&mut self, alloc: Global, name: &str) -> Result<Vec<u8>, FileFault>
-        ensures refused { IsErrOf result FileFault.Failed ↔ IsRefused (⟦<Self as Files>⟧.contents self.old name.now) }
+        ensures refused { IsErrOf result FileFault.Failed
+            ↔ IsRefused (⟦<Self as Files>⟧.contents self.old name.now) }
         ensures later { self.old.faults ≤ self.new.faults }
         ensures cause { IsErrOf result FileFault.Failed → HasRisen self.old.faults self.new.faults }
-        ensures bytes { IfOk result (λ v. IfSome (⟦<Self as Files>⟧.contents self.old name.now) (λ told. v.items ≡ told)) }
+        ensures bytes { IfOk result
+            (λ v. IfSome (⟦<Self as Files>⟧.contents self.old name.now) (λ told. v.items ≡ told)) }
         ensures long { IfOk result (λ v. length v.items ≤ 67108864) }
         ensures contents { ⟦<Self as Files>⟧.contents self.new ≡ ⟦<Self as Files>⟧.contents self.old }
-        ensures logged { IsLogged (⟦<Self as Files>⟧.log self.old) (⟦<Self as Files>⟧.log self.new) name.now result }
+        ensures logged { IsLogged (⟦<Self as Files>⟧.log self.old) (⟦<Self as Files>⟧.log self.new)
+            name.now result }
     {
         let noted = self.note(alloc, name);
         match bytes_of(&self.files, name) {

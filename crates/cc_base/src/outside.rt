@@ -101,7 +101,8 @@ pub trait Sink {
         ensures cause { HasCause (faults self.old) (faults self.new) result }
         ensures fits { IfOk result (λ n. n ≤ length bytes.now) }
         ensures some { IfOk result (λ n. 0 < length bytes.now → 0 < n) }
-        ensures written { IfOk result (λ n. written self.new ≡ appended (written self.old) (take n bytes.now)) }
+        ensures written { IfOk result
+            (λ n. written self.new ≡ appended (written self.old) (take n bytes.now)) }
         ensures failed { OnErr result (written self.new ≡ written self.old) }
         ensures beside { beside self.new ≡ beside self.old };
 }
@@ -126,8 +127,10 @@ pub trait Files {
     /// and where it cannot be read. `FileFault::Memory` where there is no room for its bytes, which is no fault.
     fn load(&mut self, alloc: Global, name: &str) -> Result<Vec<u8>, FileFault>
         ensures later { faults self.old ≤ faults self.new }
-        ensures cause { IsErrOf result FileFault.Failed → HasRisen (faults self.old) (faults self.new) }
-        ensures bytes { IfOk result (λ v. IfSome (contents self.old name.now) (λ told. v.items ≡ told)) }
+        ensures cause { IsErrOf result FileFault.Failed
+            → HasRisen (faults self.old) (faults self.new) }
+        ensures bytes { IfOk result
+            (λ v. IfSome (contents self.old name.now) (λ told. v.items ≡ told)) }
         ensures long { IfOk result (λ v. length v.items ≤ 67108864) }
         ensures contents { contents self.new ≡ contents self.old }
         ensures logged { IsLogged (log self.old) (log self.new) name.now result };

@@ -14,6 +14,7 @@ use Rattle.cc_program.specs.Input.{planned_for}
 use Rattle.cc_program.specs.Planned.{IsFailureText}
 use Rattle.cc_program.specs.declared.ends.End.{End}
 use Rattle.cc_program.specs.declared.ends.End.TheVariants.{Done, GoalFailed}
+use Rattle.plan_terms.specs.Bytes.{line_feed}
 
 -- the text of all lists behind the journal of a book that carried the request out, which are those of a plan's end
 pub record IsAppliedText (m : Meaning) (ask : Ask) (text : List ℕ) : Type 0 where
@@ -22,7 +23,7 @@ pub record IsAppliedText (m : Meaning) (ask : Ask) (text : List ℕ) : Type 0 wh
   pub plan : PlanView
   pub planned : IsPlanOf (planned_for ask m).cluster m.lists (goals_of ask) plan
   pub carried : lists_now (state_of book).desk.exec ≡ plan.end
-  pub spelled : text ≡ assignment_text (planned_for ask m).cluster.parts plan.end ++ 10 ∷ []
+  pub spelled : text ≡ assignment_text (planned_for ask m).cluster.parts plan.end ++ line_feed ∷ []
 
 -- the text of the goal that failed it, behind the journal of such a book, which left the lists as they were
 pub record IsGivenUpText (m : Meaning) (ask : Ask) (text : List ℕ) (end : End) : Type 0 where

@@ -10,6 +10,7 @@ use Rattle.plan_check.specs.declared.faults.FaultKind.{FaultKind}
 use Rattle.cc_program.specs.Input.{ClusterLists}
 use Rattle.cc_program.specs.declared.ends.End.{End}
 use Rattle.cc_program.specs.declared.ends.End.TheVariants.{Done, TraceRefused}
+use Rattle.plan_terms.specs.Bytes.{line_feed, blank}
 
 -- a trace, with what it is checked for
 abbrev pub checked : ClusterLists → List GoalKind → Trace → Checked
@@ -30,16 +31,16 @@ pub record IsFaultyTrace (file : ClusterLists) (goals : List GoalKind) (bytes : 
 -- where the bytes are told, they are a good trace; and the text says so
 pub record IsGoodText (told : Option (List ℕ)) (file : ClusterLists) (goals : List GoalKind) (text : List ℕ) : Type 0 where
   pub good : IfSome told (λ bytes. IsGoodTrace file goals bytes)
-  pub spelled : text ≡ codes "good" ++ 10 ∷ []
+  pub spelled : text ≡ codes "good" ++ line_feed ∷ []
 
 -- where the bytes are told, they are no trace; and the text says so
 pub record IsNoTraceText (told : Option (List ℕ)) (text : List ℕ) : Type 0 where
   pub none : IfSome told (λ bytes. trace_of bytes ≡ None)
-  pub spelled : text ≡ codes "fault 0 0 NOT_A_TRACE" ++ 10 ∷ []
+  pub spelled : text ≡ codes "fault 0 0 NOT_A_TRACE" ++ line_feed ∷ []
 
 -- the place of a fault, and its name
 abbrev pub fault_text : ℕ → ℕ → List ℕ → List ℕ
-fault_text turn action name = codes "fault " ++ decimal turn ++ 32 ∷ (decimal action ++ 32 ∷ name)
+fault_text turn action name = codes "fault " ++ decimal turn ++ blank ∷ (decimal action ++ blank ∷ name)
 
 -- where the bytes are told, they are a trace that has a fault; and the text says what the first is
 pub record IsFaultyText (told : Option (List ℕ)) (file : ClusterLists) (goals : List GoalKind) (text : List ℕ) : Type 0 where
@@ -47,7 +48,7 @@ pub record IsFaultyText (told : Option (List ℕ)) (file : ClusterLists) (goals 
   pub action : ℕ
   pub kind : FaultKind
   pub faulty : IfSome told (λ bytes. IsFaultyTrace file goals bytes turn action kind)
-  pub spelled : text ≡ fault_text turn action (fault_name kind) ++ 10 ∷ []
+  pub spelled : text ≡ fault_text turn action (fault_name kind) ++ line_feed ∷ []
 
 -- where the bytes are told, they are no good trace; and the text says why
 pub record IsFaultText (told : Option (List ℕ)) (file : ClusterLists) (goals : List GoalKind) (text : List ℕ) : Type 0 where

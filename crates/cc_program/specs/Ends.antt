@@ -7,6 +7,7 @@ use Rattle.goal_set.specs.Kinds.{name_of}
 use Rattle.goal_set.specs.declared.kinds.GoalKind.{GoalKind}
 use Rattle.cc_program.specs.declared.ends.End.{End}
 use Rattle.cc_program.specs.declared.ends.End.TheVariants.{Done, Usage, Refused, GoalFailed, FileFault, ReadFault, WriteFault, NotDrained, Memory, InputCut, TraceRefused, ListenerFault}
+use Rattle.plan_terms.specs.Bytes.{line_feed}
 
 -- the exit status
 abbrev pub status_of : End → ℕ
@@ -26,25 +27,25 @@ status_of ListenerFault = 12
 -- the line on the error stream, ended by a line feed
 abbrev pub line_of : End → List ℕ
 line_of Done = []
-line_of Usage = codes "usage error" ++ 10 ∷ []
+line_of Usage = codes "usage error" ++ line_feed ∷ []
 line_of (Refused line) = line.items
 line_of (GoalFailed line) = line.items
-line_of FileFault = codes "file fault" ++ 10 ∷ []
-line_of ReadFault = codes "read fault" ++ 10 ∷ []
-line_of WriteFault = codes "write fault" ++ 10 ∷ []
-line_of NotDrained = codes "not drained" ++ 10 ∷ []
-line_of Memory = codes "want of memory" ++ 10 ∷ []
-line_of InputCut = codes "input cut" ++ 10 ∷ []
-line_of TraceRefused = codes "trace refused" ++ 10 ∷ []
-line_of ListenerFault = codes "listener fault" ++ 10 ∷ []
+line_of FileFault = codes "file fault" ++ line_feed ∷ []
+line_of ReadFault = codes "read fault" ++ line_feed ∷ []
+line_of WriteFault = codes "write fault" ++ line_feed ∷ []
+line_of NotDrained = codes "not drained" ++ line_feed ∷ []
+line_of Memory = codes "want of memory" ++ line_feed ∷ []
+line_of InputCut = codes "input cut" ++ line_feed ∷ []
+line_of TraceRefused = codes "trace refused" ++ line_feed ∷ []
+line_of ListenerFault = codes "listener fault" ++ line_feed ∷ []
 
 -- the line that tells a file's fault
 abbrev pub refusal_line : Fault → List ℕ
-refusal_line fault = codes "cluster refused: " ++ fault_text fault ++ 10 ∷ []
+refusal_line fault = codes "cluster refused: " ++ fault_text fault ++ line_feed ∷ []
 
 -- the line that tells which goal fails
 abbrev pub goal_line : GoalKind → List ℕ
-goal_line goal = codes "hard goal failed: " ++ name_of goal ++ 10 ∷ []
+goal_line goal = codes "hard goal failed: " ++ name_of goal ++ line_feed ∷ []
 
 -- the end of a run whose goal fails
 abbrev pub IsFailureEnd : GoalKind → End → Type 0

@@ -8,6 +8,7 @@ use Rattle.cc_program.specs.Ends.{goal_line}
 use Rattle.cc_program.specs.Input.{ClusterLists}
 use Rattle.cc_program.specs.declared.ends.End.{End}
 use Rattle.cc_program.specs.declared.ends.End.TheVariants.{Done, GoalFailed}
+use Rattle.plan_terms.specs.Bytes.{line_feed}
 
 -- the summary of a plan for the cluster, the lists and the goals
 pub record IsPlanSummary (file : ClusterLists) (goals : List GoalKind) (text : List ℕ) : Type 0 where
@@ -35,7 +36,7 @@ IsSummary file goals text _ = ⊥
 
 -- the cluster file itself, where it is asked for; else the summary of a plan
 abbrev IsDone : Bool → List ℕ → ClusterLists → List GoalKind → List ℕ → Type 0
-IsDone true made file goals text = text ≡ made ++ 10 ∷ []
+IsDone true made file goals text = text ≡ made ++ line_feed ∷ []
 IsDone false made file goals text = IsSummary file goals text Done
 
 -- what is made of a cluster file that was made from a seed, and how the run ends

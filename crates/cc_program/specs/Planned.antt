@@ -13,11 +13,12 @@ use Rattle.cc_program.specs.Ends.{goal_line}
 use Rattle.cc_program.specs.Input.{ClusterLists}
 use Rattle.cc_program.specs.declared.ends.End.{End}
 use Rattle.cc_program.specs.declared.ends.End.TheVariants.{Done, GoalFailed}
+use Rattle.plan_terms.specs.Bytes.{line_feed}
 
 -- the text of a plan: its proposals; or its trace, where that is asked for
 unfoldable pub plan_text : Bool → ClusterLists → PlanView → List ℕ
-plan_text true file plan = trace_text (trace_view plan.trace) ++ 10 ∷ []
-plan_text false file plan = reassignment_text file.cluster.parts (proposals file.lists plan.end) ++ 10 ∷ []
+plan_text true file plan = trace_text (trace_view plan.trace) ++ line_feed ∷ []
+plan_text false file plan = reassignment_text file.cluster.parts (proposals file.lists plan.end) ++ line_feed ∷ []
 
 -- the JSON of a goal that failed, with its measure as a text
 unfoldable pub failure_json : List ℕ → ℕ → List ℕ
@@ -25,8 +26,8 @@ failure_json name left = compact_text (object (member (codes "failed") (string n
 
 -- the text of a failure: the goal and how far it stays broken; or its trace, where that is asked for
 unfoldable pub failure_text : Bool → GoalKind → FailureView → List ℕ
-failure_text true goal failure = trace_text (trace_view failure.trace) ++ 10 ∷ []
-failure_text false goal failure = failure_json (name_of goal) failure.left ++ 10 ∷ []
+failure_text true goal failure = trace_text (trace_view failure.trace) ++ line_feed ∷ []
+failure_text false goal failure = failure_json (name_of goal) failure.left ++ line_feed ∷ []
 
 -- the text of a failure, and the line that names its goal: that of its last turn
 abbrev pub IsFailed : Bool → FailureView → List ℕ → End → Type 0

@@ -6,7 +6,7 @@ ghost use Rattle.cc_program.specs.Ends.{IsFailureEnd};
 use crate::ends::End;
 use cc_base::{Link, write_link};
 use goal_set::GoalKind;
-use load_model::Memory;
+use plan_terms::Memory;
 use std::alloc::Global;
 
 /// A text, and how the run ends once it is written.

@@ -7,6 +7,7 @@ ghost use Rattle.exec_terms.specs.Machine.{lists_now};
 ghost use Rattle.control_core.specs.Books.{state_of};
 ghost use Rattle.proposal_set.specs.Text.{assignment_text};
 ghost use Rattle.cc_program.specs.Applied.{IsApplied};
+ghost use Rattle.plan_terms.specs.Bytes.{line_feed};
 
 use crate::answers::Answer;
 use crate::ends::End;
@@ -16,15 +17,20 @@ use cluster_gate::MemoryCluster;
 use cluster_json::ClusterFile;
 use control_core::Book;
 use core_cases::{case_of, loaded_case};
-use load_model::{Case, Memory};
+use load_model::Case;
+use plan_terms::Memory;
 use proposal_set::assignment_text;
 use request_runs::{RequestRun, lists_told, run_request};
 use std::alloc::Global;
+use std::thread::Threads;
 
 // The text of all lists of a book whose lists belong to the case, and a line feed.
 fn lists_text(alloc: Global, case: &Case, book: &Book<MemoryCluster>) -> Result<Answer, Memory>
     requires { Belongs case.now (lists_now (state_of book.now).desk.exec) }
-    ensures text { IfOk result (λ a. a.text.items ≡ assignment_text case.now.parts (lists_now (state_of book.now).desk.exec) ++ 10 ∷ []) }
+    ensures text { IfOk result
+        (λ a. a.text.items
+        ≡ assignment_text case.now.parts (lists_now (state_of book.now).desk.exec)
+        ++ line_feed ∷ []) }
     ensures end { IfOk result (λ a. a.end ≡ End.Done) }
 {
     let _few = case.parts();
@@ -40,14 +46,19 @@ fn lists_text(alloc: Global, case: &Case, book: &Book<MemoryCluster>) -> Result<
 
 /// What `apply` makes of what a file means: it carries a request out, by a book of the file's cluster, and tells the lists that this
 /// leaves, or the goal that fails.
-pub fn apply(alloc: Global, file: ClusterFile, planning: Planning) -> Result<Answer, Memory>
+pub fn apply<R: Threads + Sync>(
+    rt: &R,
+    alloc: Global,
+    file: ClusterFile,
+    planning: Planning,
+) -> Result<Answer, Memory>
     requires { IsFile file }
     ensures { IfOk result (λ a. IsApplied (file_seen file) planning.ask a.text.items a.end) }
 {
     let Planning { ask, .. } = planning;
     let present = loaded_case(alloc, &file)?;
     let case = case_of(alloc, &ask, present)?;
-    let RequestRun { book, broken } = run_request(alloc, file, ask)?;
+    let RequestRun { book, broken } = run_request(rt, alloc, file, ask)?;
     match broken {
         None => lists_text(alloc, &case, &book),
         Some(broken) => goal_failed_with(alloc, broken.goal, broken.left),

@@ -9,9 +9,9 @@ use crate::planning::Planning;
 use command_words::{Command, Goals, WordsFault, read_words};
 use core_cases::goals_of;
 use goal_set::GoalFault;
-use plan_terms::Topic;
+use plan_terms::{ListOf, Topic};
 use std::alloc::Global;
-use user_tasks::{Ask, ListOf, Op};
+use user_tasks::{Ask, Op};
 
 /// A command.
 #[derive(Drop)]
@@ -48,8 +48,11 @@ pub enum Request {
 
 // A rebalance with these goals, unless their names are refused.
 fn rebalance(alloc: Global, goals: Goals, excluded: Vec<Topic>) -> Result<Planning, WordsFault>
-    ensures ok { IfOk result (λ p. (p.ask ≡ rebalance (goals_told goals) excluded.items) × (goals_fault p.ask ≡ None)) }
-    ensures usage { IfErr result (λ e. e ≡ WordsFault.Usage → IsSome (goals_fault (rebalance (goals_told goals) excluded.items))) }
+    ensures ok { IfOk result
+        (λ p. (p.ask ≡ rebalance (goals_told goals) excluded.items) × (goals_fault p.ask ≡ None)) }
+    ensures usage { IfErr result
+        (λ e. e ≡ WordsFault.Usage
+        → IsSome (goals_fault (rebalance (goals_told goals) excluded.items))) }
 {
     let Goals {
         names,
@@ -78,7 +81,8 @@ fn rebalance(alloc: Global, goals: Goals, excluded: Vec<Topic>) -> Result<Planni
 /// command belongs to a run with threads or a listener. `WordsFault::Memory` out of memory.
 pub fn read_request(alloc: Global, words: &[String]) -> Result<Request, WordsFault>
     ensures ok { IfOk result (λ r. command (map string_bytes words.now) ≡ Some (asked r)) }
-    ensures usage { IfErr result (λ e. e ≡ WordsFault.Usage → command (map string_bytes words.now) ≡ None) }
+    ensures usage { IfErr result
+        (λ e. e ≡ WordsFault.Usage → command (map string_bytes words.now) ≡ None) }
 {
     match read_words(alloc, words)? {
         Command::Plan(options) => Ok(Request::Plan {

@@ -16,9 +16,10 @@ use cluster_gen::cluster_text;
 use cluster_json::ClusterFile;
 use goal_optimizer::{PlanFault, optimise};
 use goal_set::{Failure, GoalList};
-use load_model::Memory;
 use plan_summary::{failure_summary, plan_summary};
+use plan_terms::Memory;
 use std::alloc::Global;
+use std::thread::Threads;
 
 /// What a cluster is made from: a seed, and how many brokers and partitions it is to have.
 #[derive(Drop)]
@@ -53,11 +54,16 @@ fn failed(alloc: Global, failure: &Failure) -> Result<Answer, Memory>
 }
 
 /// Plans for a cluster and a list of goals, and sums up.
-pub fn summary(alloc: Global, loaded: &Loaded, goals: &GoalList) -> Result<Answer, Memory>
+pub fn summary<R: Threads + Sync>(
+    rt: &R,
+    alloc: Global,
+    loaded: &Loaded,
+    goals: &GoalList,
+) -> Result<Answer, Memory>
     requires { Belongs loaded.now.case loaded.now.lists }
     ensures { IfOk result (λ a. IsSummary (cluster_lists loaded.now) goals.now a.text.items a.end) }
 {
-    match optimise(alloc, &loaded.case, &loaded.lists, goals) {
+    match optimise(rt, alloc, &loaded.case, &loaded.lists, goals) {
         Ok(plan) => {
             let text = plan_summary(alloc, &plan)?;
             Ok(Answer {
@@ -71,7 +77,8 @@ pub fn summary(alloc: Global, loaded: &Loaded, goals: &GoalList) -> Result<Answe
 }
 
 /// What `gen` makes of a cluster that was made: its file; or the summary of a plan for it, or of the goal that fails.
-pub fn generated(
+pub fn generated<R: Threads + Sync>(
+    rt: &R,
     alloc: Global,
     file: ClusterFile,
     recipe: &Recipe,
@@ -80,8 +87,10 @@ pub fn generated(
 ) -> Result<Answer, Memory>
     requires { IsFile file }
     ensures { IfOk result
-        (λ a. IsGenerated whole (cluster_text recipe.now.seed recipe.now.brokers recipe.now.partitions)
-        (planned_for planning.now.ask (file_seen file)) (goals_of planning.now.ask) a.text.items a.end) }
+        (λ a. IsGenerated whole
+        (cluster_text recipe.now.seed recipe.now.brokers recipe.now.partitions)
+        (planned_for planning.now.ask (file_seen file)) (goals_of planning.now.ask) a.text.items
+        a.end) }
 {
     if whole {
         let mut text = recipe.text(alloc)?;
@@ -92,5 +101,5 @@ pub fn generated(
         });
     }
     let loaded = loaded_for(alloc, file, &planning.ask)?;
-    summary(alloc, &loaded, &planning.goals)
+    summary(rt, alloc, &loaded, &planning.goals)
 }

@@ -7,9 +7,10 @@ ghost use Rattle.cluster_json.specs.Views.{file_seen};
 ghost use Rattle.cc_program.specs.Ends.{refusal_line};
 ghost use Rattle.cc_program.specs.Input.{cluster_lists, planned_for};
 
-use cluster_json::{Caps, ClusterFile, FileRefusal};
+use cluster_json::{ClusterFile, FileRefusal};
 use core_cases::{case_of, loaded_case};
-use load_model::{Assign, Case, Memory};
+use load_model::{Assign, Case};
+use plan_terms::{Caps, Memory};
 use std::alloc::Global;
 use user_tasks::Ask;
 
@@ -26,7 +27,8 @@ pub struct Loaded {
 #[tactic(auto, unfolding(crate::specs::Input::planned_for, crate::specs::Input::loaded_cluster))]
 pub fn loaded_for(alloc: Global, file: ClusterFile, ask: &Ask) -> Result<Loaded, Memory>
     requires { IsFile file }
-    ensures value { IfOk result (λ loaded. cluster_lists loaded ≡ planned_for ask.now (file_seen file)) }
+    ensures value { IfOk result
+        (λ loaded. cluster_lists loaded ≡ planned_for ask.now (file_seen file)) }
     ensures belongs { IfOk result (λ loaded. Belongs loaded.case loaded.lists) }
     ensures caps { IfOk result (λ loaded. AreCaps loaded.caps) }
 {
@@ -41,11 +43,9 @@ pub fn loaded_for(alloc: Global, file: ClusterFile, ask: &Ask) -> Result<Loaded,
 
 /// The line that tells a refusal.
 pub fn refusal_line(alloc: Global, refusal: &FileRefusal) -> Result<Vec<u8>, Memory>
-    ensures { IfOk result (λ line. IfSome (fault_of refusal.now) (λ fault. line.items ≡ refusal_line fault)) }
+    ensures { IfOk result
+        (λ line. IfSome (fault_of refusal.now) (λ fault. line.items ≡ refusal_line fault)) }
 {
-    let text = refusal.text(alloc)?;
-    let mut line = Vec::from_slice(alloc, b"cluster refused: ")?;
-    line.extend_from_slice(text.as_bytes())?;
-    line.push(10)?;
-    Ok(line)
+    let line = format!(in alloc; "cluster refused: {refusal}\n")?;
+    Ok(line.into_bytes())
 }

@@ -209,7 +209,8 @@ where
     requires none { room.items ≡ [] }
     requires room { links_of crew.serving ≤ vec_capacity room }
     ensures begun { IsSome result.1.book }
-    ensures over { IfSome result.1.book (λ c. IsOver (gate A.faults A.told) book.file (crew_told crew)
+    ensures over { IfSome result.1.book
+        (λ c. IsOver (gate A.faults A.told) book.file (crew_told crew)
         (outside_told K.Copier L.Source L.Sink N.Listener outside)
         (outside_told K.Copier L.Source L.Sink N.Listener result.1.outside)
         (served_told N.Conn.Source N.Conn.Sink result.1.links.items) c result.0) }
@@ -416,25 +417,29 @@ where
         (shelf F.contents F.faults F.log files.old files.new)
         (outside_told K.Copier L.Source L.Sink N.Listener outside)
         (outside_told K.Copier L.Source L.Sink N.Listener result.left.outside)
-        (served_told N.Conn.Source N.Conn.Sink result.left.links.items)
-        admin result.left.admin result.left.book end
-        × IsTold (line_of end) (O.written err.old) (O.written err.new) (O.faults err.old) (O.faults err.new) }
-    ensures statuses { (result.status ≡ 0) ⊎ (result.status ≡ 2) ⊎ (result.status ≡ 3) ⊎ (result.status ≡ 5)
-        ⊎ (result.status ≡ 6) ⊎ (result.status ≡ 7) ⊎ (result.status ≡ 8) ⊎ (result.status ≡ 9)
-        ⊎ (result.status ≡ 10) ⊎ (result.status ≡ 12) }
+        (served_told N.Conn.Source N.Conn.Sink result.left.links.items) admin result.left.admin
+        result.left.book end
+        × IsTold (line_of end) (O.written err.old) (O.written err.new) (O.faults err.old)
+        (O.faults err.new) }
+    ensures statuses { (result.status ≡ 0) ⊎ (result.status ≡ 2) ⊎ (result.status ≡ 3)
+        ⊎ (result.status ≡ 5) ⊎ (result.status ≡ 6) ⊎ (result.status ≡ 7) ⊎ (result.status ≡ 8)
+        ⊎ (result.status ≡ 9) ⊎ (result.status ≡ 10) ⊎ (result.status ≡ 12) }
     // 2: only where the words are no such command, or ask for too many copiers, and there unless memory runs out.
-    ensures usage { result.status ≡ 2 → IsUnasked (map string_bytes words.now) (vec_len outside.copiers) }
+    ensures usage { result.status ≡ 2
+        → IsUnasked (map string_bytes words.now) (vec_len outside.copiers) }
     ensures refuses_words { IsUnasked (map string_bytes words.now) (vec_len outside.copiers)
         → (result.status ≡ 2) ⊎ (result.status ≡ 9) }
     // 3: only where the file has a fault, whose line is told, and there unless the words, the files or memory stand in the way.
     ensures refused { result.status ≡ 3
         → (line : List ℕ)
-        × IsLiveRefusal (map string_bytes words.now) (shelf F.contents F.faults F.log files.old files.new) line
-        × IsTold line (O.written err.old) (O.written err.new) (O.faults err.old) (O.faults err.new) }
+        × IsLiveRefusal (map string_bytes words.now)
+        (shelf F.contents F.faults F.log files.old files.new) line
+        × IsTold line (O.written err.old) (O.written err.new) (O.faults err.old)
+        (O.faults err.new) }
     ensures refuses { (asked : LiveAsked) (bytes : List ℕ) (fault : Fault)
         → live_command (map string_bytes words.now) ≡ Some asked
-        → F.contents files.old asked.file ≡ Some bytes
-        → IsRefused bytes fault → (result.status ≡ 2) ⊎ (result.status ≡ 3) ⊎ (result.status ≡ 5) ⊎ (result.status ≡ 9) }
+        → F.contents files.old asked.file ≡ Some bytes → IsRefused bytes fault
+        → (result.status ≡ 2) ⊎ (result.status ≡ 3) ⊎ (result.status ≡ 5) ⊎ (result.status ≡ 9) }
     // 5, 6, 7 and 12: only where the count of the files, of the input, of the output or of the listener rose.
     ensures files { result.status ≡ 5 → HasRisen (F.faults files.old) (F.faults files.new) }
     ensures input { result.status ≡ 6
@@ -447,7 +452,8 @@ where
     ensures admin { result.status ≡ 8 → AdminFailed (gate A.faults A.told)
         admin result.left.admin result.left.book }
     // 10: only of a session whose input ended inside a request, or has one that can't be framed.
-    ensures cut { result.status ≡ 10 → IsCutSession (map string_bytes words.now) (L.left outside.console) }
+    ensures cut { result.status ≡ 10
+        → IsCutSession (map string_bytes words.now) (L.left outside.console) }
     // 0 or 9: wherever all that was given is as it should be, and no call outside failed.
     ensures complete { IsLiveGiven (map string_bytes words.now)
         (shelf F.contents F.faults F.log files.old files.new)

@@ -24,8 +24,8 @@ use cluster_gate::{MemoryCluster, MemoryCopier};
 use command_words::wants_live;
 use ends::{End, conclude};
 use lives::{Outside, run_live};
-use load_model::Memory;
 use net_links::{HostListener, Listener};
+use plan_terms::Memory;
 use quiet::run_quiet;
 use std::alloc::Global;
 use std::io::ErrorKind;
@@ -90,7 +90,8 @@ fn run_threads<
 where
     N::Conn: Send + Drop,
     ensures { (end : End) × (exit_status result ≡ status_of end)
-        × IsTold (line_of end) (O.written err.old) (O.written err.new) (O.faults err.old) (O.faults err.new) }
+        × IsTold (line_of end) (O.written err.old) (O.written err.new) (O.faults err.old)
+        (O.faults err.new) }
 {
     let Ok(copiers) = copiers(alloc) else {
         return exit_code(conclude(err, &End::Memory));
@@ -124,7 +125,8 @@ fn run_words<
 where
     N::Conn: Send + Drop,
     ensures { (end : End) × (exit_status result ≡ status_of end)
-        × IsTold (line_of end) (O.written err.old) (O.written err.new) (O.faults err.old) (O.faults err.new) }
+        × IsTold (line_of end) (O.written err.old) (O.written err.new) (O.faults err.old)
+        (O.faults err.new) }
 {
     match words {
         Ok(words) => {
@@ -155,6 +157,3 @@ fn main(rt: HostRuntime) -> ExitCode {
         &mut err,
     )
 }
-
-#[cfg(test)]
-mod tests;

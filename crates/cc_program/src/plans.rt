@@ -12,6 +12,7 @@ ghost use Rattle.goal_set.specs.Kinds.{name_of};
 ghost use Rattle.cc_program.specs.Ends.{IsFailureEnd};
 ghost use Rattle.cc_program.specs.Input.{cluster_lists, planned_for};
 ghost use Rattle.cc_program.specs.Planned.{IsFailed, IsPlanned, failure_json, failure_text, plan_text};
+ghost use Rattle.plan_terms.specs.Bytes.{line_feed};
 
 use crate::answers::{Answer, goal_failed};
 use crate::ends::End;
@@ -20,15 +21,17 @@ use crate::planning::Planning;
 use cluster_json::ClusterFile;
 use goal_optimizer::{PlanFault, optimise};
 use goal_set::{Failure, GoalKind, GoalList, Plan};
-use load_model::{Assign, Case, Memory};
+use load_model::{Assign, Case};
 use plan_check::trace_text;
+use plan_terms::Memory;
 use proposal_set::{proposals, reassignment_text};
 use serde_json::{Value, json};
 use std::alloc::Global;
+use std::thread::Threads;
 
 // The text, ended by a line feed.
 fn ended(mut text: Vec<u8>) -> Result<Vec<u8>, Memory>
-    ensures { IfOk result (λ t. t.items ≡ text.items ++ 10 ∷ []) }
+    ensures { IfOk result (λ t. t.items ≡ text.items ++ line_feed ∷ []) }
 {
     text.push(10)?;
     Ok(text)
@@ -100,7 +103,8 @@ fn failure_text(
 /// The goal that failed, with its measure, and its line.
 #[tactic(auto, unfolding(crate::specs::Planned::failure_text))]
 pub fn goal_failed_with(alloc: Global, goal: GoalKind, left: u128) -> Result<Answer, Memory>
-    ensures text { IfOk result (λ a. a.text.items ≡ failure_json (name_of goal) left ++ 10 ∷ []) }
+    ensures text { IfOk result
+        (λ a. a.text.items ≡ failure_json (name_of goal) left ++ line_feed ∷ []) }
     ensures end { IfOk result (λ a. IsFailureEnd goal a.end) }
 {
     let end = goal_failed(alloc, goal)?;
@@ -119,11 +123,18 @@ pub fn failed(alloc: Global, failure: &Failure, trace: bool) -> Result<Answer, M
 }
 
 // Plans for a cluster and a list of goals.
-fn planned(alloc: Global, loaded: &Loaded, goals: &GoalList, trace: bool) -> Result<Answer, Memory>
+fn planned<R: Threads + Sync>(
+    rt: &R,
+    alloc: Global,
+    loaded: &Loaded,
+    goals: &GoalList,
+    trace: bool,
+) -> Result<Answer, Memory>
     requires { Belongs loaded.now.case loaded.now.lists }
-    ensures { IfOk result (λ a. IsPlanned trace (cluster_lists loaded.now) goals.now a.text.items a.end) }
+    ensures { IfOk result
+        (λ a. IsPlanned trace (cluster_lists loaded.now) goals.now a.text.items a.end) }
 {
-    match optimise(alloc, &loaded.case, &loaded.lists, goals) {
+    match optimise(rt, alloc, &loaded.case, &loaded.lists, goals) {
         Ok(plan) => {
             let text = plan_text(alloc, loaded, &plan, trace)?;
             Ok(Answer {
@@ -137,7 +148,8 @@ fn planned(alloc: Global, loaded: &Loaded, goals: &GoalList, trace: bool) -> Res
 }
 
 /// What `plan` makes of what a file means: the text of a plan, or the goal that fails; or the trace of either.
-pub fn plan(
+pub fn plan<R: Threads + Sync>(
+    rt: &R,
     alloc: Global,
     file: ClusterFile,
     planning: &Planning,
@@ -145,9 +157,9 @@ pub fn plan(
 ) -> Result<Answer, Memory>
     requires { IsFile file }
     ensures { IfOk result
-        (λ a. IsPlanned trace (planned_for planning.now.ask (file_seen file)) (goals_of planning.now.ask)
-        a.text.items a.end) }
+        (λ a. IsPlanned trace (planned_for planning.now.ask (file_seen file))
+        (goals_of planning.now.ask) a.text.items a.end) }
 {
     let loaded = loaded_for(alloc, file, &planning.ask)?;
-    planned(alloc, &loaded, &planning.goals, trace)
+    planned(rt, alloc, &loaded, &planning.goals, trace)
 }

@@ -28,7 +28,7 @@ use crate::sessions::session;
 use cc_base::{FileFault, Files, Link, Sink};
 use cluster_json::{ClusterFile, FileRefusal, read_cluster};
 use command_words::WordsFault;
-use load_model::Memory;
+use plan_terms::Memory;
 use std::alloc::Global;
 use std::thread::Threads;
 
@@ -99,7 +99,8 @@ pub fn load<F: Files>(
 }
 
 // What `check` makes of what the file means. It loads its trace.
-fn check<F: Files>(
+fn check<F: Files, R: Threads + Sync>(
+    rt: &R,
     alloc: Global,
     files: &mut F,
     trace: &str,
@@ -108,18 +109,22 @@ fn check<F: Files>(
 ) -> Result<Answer, FileFault>
     requires { IsFile file }
     ensures later { F.faults files.old ≤ F.faults files.new }
-    ensures cause { IsErrOf result FileFault.Failed → HasRisen (F.faults files.old) (F.faults files.new) }
-    ensures made { IfOk result (λ a. IsChecked (F.contents files.old trace.now)
-        (planned_for planning.now.ask (file_seen file)) (goals_of planning.now.ask) a.text.items a.end) }
+    ensures cause { IsErrOf result FileFault.Failed
+        → HasRisen (F.faults files.old) (F.faults files.new) }
+    ensures made { IfOk result
+        (λ a. IsChecked (F.contents files.old trace.now)
+        (planned_for planning.now.ask (file_seen file)) (goals_of planning.now.ask) a.text.items
+        a.end) }
     ensures log { OnOk result (F.log files.new ≡ with_name (F.log files.old) trace.now) }
 {
     let loaded = loaded_for(alloc, file, &planning.ask)?;
     let bytes = files.load(alloc, trace)?;
-    Ok(judge(alloc, &loaded, &planning.goals, &bytes)?)
+    Ok(judge(rt, alloc, &loaded, &planning.goals, &bytes)?)
 }
 
 // Does what is asked of what the file means.
-fn perform<F: Files, L: Link>(
+fn perform<F: Files, L: Link, R: Threads + Sync>(
+    rt: &R,
     alloc: Global,
     files: &mut F,
     console: &mut L,
@@ -141,19 +146,22 @@ fn perform<F: Files, L: Link>(
             trace,
             planning,
             ..
-        } => write(console, plan(alloc, file, &planning, trace)),
-        Request::Apply { planning, .. } => write(console, apply(alloc, file, planning)),
+        } => write(console, plan(rt, alloc, file, &planning, trace)),
+        Request::Apply { planning, .. } => write(console, apply(rt, alloc, file, planning)),
         Request::Gen {
             recipe,
             whole,
             planning,
-        } => write(console, generated(alloc, file, &recipe, whole, &planning)),
-        Request::Session { .. } => session(alloc, file, console),
+        } => write(
+            console,
+            generated(rt, alloc, file, &recipe, whole, &planning),
+        ),
+        Request::Session { .. } => session(rt, alloc, file, console),
         Request::Check {
             trace,
             planning,
             ..
-        } => match check(alloc, files, &trace, file, &planning) {
+        } => match check(rt, alloc, files, &trace, file, &planning) {
             Ok(answer) => write(console, Ok(answer)),
             Err(FileFault::Failed) => End::FileFault,
             Err(FileFault::Memory) => End::Memory,
@@ -161,7 +169,13 @@ fn perform<F: Files, L: Link>(
     }
 }
 
-fn run<F: Files, L: Link>(alloc: Global, words: &[String], files: &mut F, console: &mut L) -> End
+fn run<F: Files, L: Link, R: Threads + Sync>(
+    rt: &R,
+    alloc: Global,
+    words: &[String],
+    files: &mut F,
+    console: &mut L,
+) -> End
     ensures files { F.faults files.old ≤ F.faults files.new }
     ensures out { L.Sink.faults console.old ≤ L.Sink.faults console.new }
     ensures runs { Runs (map string_bytes words.now)
@@ -169,9 +183,11 @@ fn run<F: Files, L: Link>(alloc: Global, words: &[String], files: &mut F, consol
     ensures logs { Logs (map string_bytes words.now) (F.log files.old) (F.log files.new) result }
     ensures alone { (asked : Asked) (bytes : List ℕ) (fault : Fault)
         → command (map string_bytes words.now) ≡ Some asked
-        → source_of (F.contents files.old) asked ≡ Some bytes
-        → IsRefused bytes fault → (F.log files.new ≡ F.log files.old) ⊎ (F.log files.new ≡ with_source (F.log files.old) asked) }
-    ensures input { AsksSession (map string_bytes words.now) ⊎ ((L.left console.new ≡ L.left console.old)
+        → source_of (F.contents files.old) asked ≡ Some bytes → IsRefused bytes fault
+        → (F.log files.new ≡ F.log files.old)
+        ⊎ (F.log files.new ≡ with_source (F.log files.old) asked) }
+    ensures input { AsksSession (map string_bytes words.now)
+        ⊎ ((L.left console.new ≡ L.left console.old)
         × (L.Source.faults console.new ≡ L.Source.faults console.old)) }
     ensures source { L.Source.faults console.old ≤ L.Source.faults console.new }
 {
@@ -181,7 +197,7 @@ fn run<F: Files, L: Link>(alloc: Global, words: &[String], files: &mut F, consol
         Err(WordsFault::Memory) => return End::Memory,
     };
     match load(alloc, files, &request) {
-        Ok(file) => perform(alloc, files, console, request, file),
+        Ok(file) => perform(rt, alloc, files, console, request, file),
         Err(LoadFault::Refused(line)) => End::Refused(line),
         Err(LoadFault::Failed) => End::FileFault,
         Err(LoadFault::Memory) => End::Memory,
@@ -197,7 +213,7 @@ fn run<F: Files, L: Link>(alloc: Global, words: &[String], files: &mut F, consol
 /// The console is the input and the output, as one link. What is said of contents, and of which files were loaded, holds where
 /// `files` and the console tell it, as those over memory do. Only a session reads the input.
 pub fn run_quiet<R: Threads + Sync, F: Files, L: Link, O: Sink>(
-    _rt: &R,
+    rt: &R,
     alloc: Global,
     words: &[String],
     files: &mut F,
@@ -208,32 +224,44 @@ pub fn run_quiet<R: Threads + Sync, F: Files, L: Link, O: Sink>(
     ensures ended { (end : End) × (result ≡ status_of end)
         × Runs (map string_bytes words.now)
         (edge_told F.Files L.Source L.Sink files.old files.new console.old console.new) end
-        × IsTold (line_of end) (O.written err.old) (O.written err.new) (O.faults err.old) (O.faults err.new) }
-    ensures statuses { (result ≡ 0) ⊎ (result ≡ 2) ⊎ (result ≡ 3) ⊎ (result ≡ 4) ⊎ (result ≡ 5) ⊎ (result ≡ 6)
-        ⊎ (result ≡ 7) ⊎ (result ≡ 9) ⊎ (result ≡ 10) ⊎ (result ≡ 11) }
+        × IsTold (line_of end) (O.written err.old) (O.written err.new) (O.faults err.old)
+        (O.faults err.new) }
+    ensures statuses { (result ≡ 0) ⊎ (result ≡ 2) ⊎ (result ≡ 3) ⊎ (result ≡ 4) ⊎ (result ≡ 5)
+        ⊎ (result ≡ 6) ⊎ (result ≡ 7) ⊎ (result ≡ 9) ⊎ (result ≡ 10) ⊎ (result ≡ 11) }
     // 0: the output grew by a text that the command makes of what its cluster's text means; or the session was served to its end and drained.
     ensures done { result ≡ 0 → Ran (map string_bytes words.now)
         (edge_told F.Files L.Source L.Sink files.old files.new console.old console.new) End.Done }
     // 11: it grew by the first fault of a trace that isn't good for what the file means.
-    ensures trace { result ≡ 11 → Ran (map string_bytes words.now)
-        (edge_told F.Files L.Source L.Sink files.old files.new console.old console.new) End.TraceRefused }
+    ensures trace { result ≡ 11
+        → Ran (map string_bytes words.now)
+        (edge_told F.Files L.Source L.Sink files.old files.new console.old console.new)
+        End.TraceRefused }
     // 6 and 10: a session was served up to a read that failed, or up to where its input is cut.
-    ensures read { result ≡ 6 → Ran (map string_bytes words.now)
-        (edge_told F.Files L.Source L.Sink files.old files.new console.old console.new) End.ReadFault }
-    ensures input { result ≡ 6 → HasRisen (L.Source.faults console.old) (L.Source.faults console.new) }
-    ensures cut { result ≡ 10 → Ran (map string_bytes words.now)
-        (edge_told F.Files L.Source L.Sink files.old files.new console.old console.new) End.InputCut }
+    ensures read { result ≡ 6
+        → Ran (map string_bytes words.now)
+        (edge_told F.Files L.Source L.Sink files.old files.new console.old console.new)
+        End.ReadFault }
+    ensures input { result ≡ 6
+        → HasRisen (L.Source.faults console.old) (L.Source.faults console.new) }
+    ensures cut { result ≡ 10
+        → Ran (map string_bytes words.now)
+        (edge_told F.Files L.Source L.Sink files.old files.new console.old console.new)
+        End.InputCut }
     // 7: only where the output's count rose. A prefix of such a text is out, or of a session's replies.
-    ensures prefix { result ≡ 7 → Ran (map string_bytes words.now)
-        (edge_told F.Files L.Source L.Sink files.old files.new console.old console.new) End.WriteFault }
+    ensures prefix { result ≡ 7
+        → Ran (map string_bytes words.now)
+        (edge_told F.Files L.Source L.Sink files.old files.new console.old console.new)
+        End.WriteFault }
     ensures output { result ≡ 7 → HasRisen (L.Sink.faults console.old) (L.Sink.faults console.new) }
     // 2: only where the words are no command, and there unless memory runs out.
     ensures usage { result ≡ 2 → command (map string_bytes words.now) ≡ None }
-    ensures refuses_words { command (map string_bytes words.now) ≡ None → (result ≡ 2) ⊎ (result ≡ 9) }
+    ensures refuses_words { command (map string_bytes words.now) ≡ None
+        → (result ≡ 2) ⊎ (result ≡ 9) }
     // 3: only where the file, or the text that is made, has a fault, whose line is told, and there unless the files or memory fail.
     ensures refused { result ≡ 3
         → (line : List ℕ) × IsRefusal (map string_bytes words.now) (F.contents files.old) line
-        × IsTold line (O.written err.old) (O.written err.new) (O.faults err.old) (O.faults err.new) }
+        × IsTold line (O.written err.old) (O.written err.new) (O.faults err.old)
+        (O.faults err.new) }
     ensures refuses { (asked : Asked) (bytes : List ℕ) (fault : Fault)
         → command (map string_bytes words.now) ≡ Some asked
         → source_of (F.contents files.old) asked ≡ Some bytes
@@ -247,7 +275,8 @@ pub fn run_quiet<R: Threads + Sync, F: Files, L: Link, O: Sink>(
     ensures memory { result ≡ 9 → (L.written console.new ≡ L.written console.old)
         ⊎ AsksSession (map string_bytes words.now) }
     // FILE is loaded before TRACE, and nothing else is. 0, 4, 6, 7, 10 and 11: all files of the command, in their order.
-    ensures loaded { (result ≡ 0) ⊎ (result ≡ 4) ⊎ (result ≡ 6) ⊎ (result ≡ 7) ⊎ (result ≡ 10) ⊎ (result ≡ 11)
+    ensures loaded { (result ≡ 0) ⊎ (result ≡ 4) ⊎ (result ≡ 6) ⊎ (result ≡ 7) ⊎ (result ≡ 10)
+        ⊎ (result ≡ 11)
         → LoadsAll (map string_bytes words.now) (F.log files.old) (F.log files.new) }
     // 2: none. 3: the cluster file alone, and no more than that wherever it has a fault.
     ensures unloaded { result ≡ 2 → F.log files.new ≡ F.log files.old }
@@ -255,15 +284,19 @@ pub fn run_quiet<R: Threads + Sync, F: Files, L: Link, O: Sink>(
         (F.log files.old) (F.log files.new) }
     ensures alone { (asked : Asked) (bytes : List ℕ) (fault : Fault)
         → command (map string_bytes words.now) ≡ Some asked
-        → source_of (F.contents files.old) asked ≡ Some bytes
-        → IsRefused bytes fault → (F.log files.new ≡ F.log files.old) ⊎ (F.log files.new ≡ with_source (F.log files.old) asked) }
+        → source_of (F.contents files.old) asked ≡ Some bytes → IsRefused bytes fault
+        → (F.log files.new ≡ F.log files.old)
+        ⊎ (F.log files.new ≡ with_source (F.log files.old) asked) }
     // 0, 4 of a plan, 11 of a trace, or 9: wherever all that was given is as it should be, and no call outside failed.
-    ensures complete { (asked : Asked) → IsWellGiven (map string_bytes words.now)
+    ensures complete { (asked : Asked)
+        → IsWellGiven (map string_bytes words.now)
         (edge_told F.Files L.Source L.Sink files.old files.new console.old console.new) asked
         → IsWell asked result ⊎ (result ≡ 9)
-        ⊎ HasFailed (edge_told F.Files L.Source L.Sink files.old files.new console.old console.new) }
+        ⊎ HasFailed
+        (edge_told F.Files L.Source L.Sink files.old files.new console.old console.new) }
     // Only a session reads the input.
-    ensures left_alone { AsksSession (map string_bytes words.now) ⊎ ((L.left console.new ≡ L.left console.old)
+    ensures left_alone { AsksSession (map string_bytes words.now)
+        ⊎ ((L.left console.new ≡ L.left console.old)
         × (L.Source.faults console.new ≡ L.Source.faults console.old)) }
     // Counts never fall.
     ensures files_later { F.faults files.old ≤ F.faults files.new }
@@ -271,6 +304,6 @@ pub fn run_quiet<R: Threads + Sync, F: Files, L: Link, O: Sink>(
     ensures out_later { L.Sink.faults console.old ≤ L.Sink.faults console.new }
     ensures err_later { O.faults err.old ≤ O.faults err.new }
 {
-    let end = run(alloc, words, files, console);
+    let end = run(rt, alloc, words, files, console);
     conclude(err, &end)
 }

@@ -15,6 +15,7 @@ use control_core::Book;
 use mover_rounds::DrainEnd;
 use rest_session::{LinkEnd, SessionEnd, run_session};
 use std::alloc::Global;
+use std::thread::Threads;
 
 /// How a run ends whose link ended well.
 pub fn drained_end(drain: DrainEnd) -> End
@@ -41,7 +42,12 @@ pub fn ended_by(ended: SessionEnd) -> End
 }
 
 // Serves a book that was just opened.
-fn serve<L: Link>(alloc: Global, book: &mut Book<MemoryCluster>, console: &mut L) -> End
+fn serve<L: Link, R: Threads + Sync>(
+    rt: &R,
+    alloc: Global,
+    book: &mut Book<MemoryCluster>,
+    console: &mut L,
+) -> End
     requires { book.old ≡ opened book.old.file book.old.admin }
     ensures did { DidSession book.old.file (io_told L.Source L.Sink console.old console.new) result }
     ensures drained { result ≢ End.NotDrained }
@@ -49,7 +55,7 @@ fn serve<L: Link>(alloc: Global, book: &mut Book<MemoryCluster>, console: &mut L
     ensures sink { L.Sink.faults console.old ≤ L.Sink.faults console.new }
 {
     let mut copier = MemoryCopier::new(alloc);
-    let ended = run_session(alloc, book, &mut copier, console);
+    let ended = run_session(rt, alloc, book, &mut copier, console);
     let _legal = book.journal();
     let _few = book.failures();
     ended_by(ended)
@@ -57,16 +63,22 @@ fn serve<L: Link>(alloc: Global, book: &mut Book<MemoryCluster>, console: &mut L
 
 /// Answers the requests of the input over a book of the file's cluster in memory, asks Close, and makes rounds until nothing is
 /// unfinished. The replies go to the output one after another.
-pub fn session<L: Link>(alloc: Global, file: ClusterFile, console: &mut L) -> End
+pub fn session<L: Link, R: Threads + Sync>(
+    rt: &R,
+    alloc: Global,
+    file: ClusterFile,
+    console: &mut L,
+) -> End
     requires { IsFile file }
-    ensures did { ((result ≡ End.Memory) × IsSilent (io_told L.Source L.Sink console.old console.new))
+    ensures did { ((result ≡ End.Memory)
+        × IsSilent (io_told L.Source L.Sink console.old console.new))
         ⊎ DidSession (file_seen file) (io_told L.Source L.Sink console.old console.new) result }
     ensures drained { result ≢ End.NotDrained }
     ensures source { L.Source.faults console.old ≤ L.Source.faults console.new }
     ensures sink { L.Sink.faults console.old ≤ L.Sink.faults console.new }
 {
     match Book::begin(alloc, file, MemoryCluster::new(alloc)) {
-        Ok(mut book) => serve(alloc, &mut book, console),
+        Ok(mut book) => serve(rt, alloc, &mut book, console),
         Err(_) => End::Memory,
     }
 }

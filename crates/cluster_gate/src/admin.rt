@@ -4,7 +4,8 @@ ghost use Rattle.cc_base.specs.Outside.{HasCause, HasRisen};
 ghost use Rattle.cluster_gate.specs.Lists.{installed, with_list};
 
 use cc_base::Failed;
-use load_model::{Assign, Memory};
+use load_model::Assign;
+use plan_terms::Memory;
 use std::alloc::{AllocError, Global};
 use thiserror::Error;
 
@@ -59,10 +60,12 @@ pub trait Admin {
     /// fault. No list is changed then.
     fn install(&mut self, alloc: Global, lists: &Assign) -> Result<(), InstallFault>
         ensures later { faults self.old ≤ faults self.new }
-        ensures cause { IsErrOf result InstallFault.Failed → HasRisen (faults self.old) (faults self.new) }
+        ensures cause { IsErrOf result InstallFault.Failed
+            → HasRisen (faults self.old) (faults self.new) }
         ensures parts { OnOk result (parts self.new ≡ length lists.now) }
         ensures lists { OnOk result (told self.new ≡ installed (told self.old) lists.now) }
-        ensures failed { OnErr result ((parts self.new ≡ parts self.old) × (told self.new ≡ told self.old)) };
+        ensures failed { OnErr result
+            ((parts self.new ≡ parts self.old) × (told self.new ≡ told self.old)) };
 
     /// Sets the list of one partition to the union of its old and its new list, with which the copies begin. Takes no memory.
     ///

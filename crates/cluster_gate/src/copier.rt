@@ -57,8 +57,11 @@ pub trait Copier {
     /// copy is made then.
     fn copy(&mut self, part: u32, to: u32, chunk: u32) -> Result<(), CopyFault>
         ensures later { faults self.old ≤ faults self.new }
-        ensures cause { IsErrOf result CopyFault.Failed → HasRisen (faults self.old) (faults self.new) }
-        ensures made { OnOk result (copies self.new ≡ with_copy (copies self.old) (record { part = part; to = to; chunk = chunk })) }
+        ensures cause { IsErrOf result CopyFault.Failed
+            → HasRisen (faults self.old) (faults self.new) }
+        ensures made { OnOk result
+            (copies self.new
+            ≡ with_copy (copies self.old) (record { part = part; to = to; chunk = chunk })) }
         ensures failed { OnErr result (copies self.new ≡ copies self.old) };
 }
 
@@ -122,9 +125,13 @@ pub fn copy_chunk<K: Copier>(
     chunk: u32,
 ) -> Result<Receipt, CopyFault>
     ensures later { K.faults copier.old ≤ K.faults copier.new }
-    ensures cause { IsErrOf result CopyFault.Failed → HasRisen (K.faults copier.old) (K.faults copier.new) }
-    ensures receipt { IfOk result (λ r. r ≡ record { lease = lease; part = part; to = to; chunk = chunk }) }
-    ensures made { OnOk result (K.copies copier.new ≡ with_copy (K.copies copier.old) (record { part = part; to = to; chunk = chunk })) }
+    ensures cause { IsErrOf result CopyFault.Failed
+        → HasRisen (K.faults copier.old) (K.faults copier.new) }
+    ensures receipt { IfOk result
+        (λ r. r ≡ record { lease = lease; part = part; to = to; chunk = chunk }) }
+    ensures made { OnOk result
+        (K.copies copier.new
+        ≡ with_copy (K.copies copier.old) (record { part = part; to = to; chunk = chunk })) }
     ensures failed { OnErr result (K.copies copier.new ≡ K.copies copier.old) }
 {
     copier.copy(part, to, chunk)?;

@@ -52,10 +52,14 @@ impl<A: Admin> Admin for FailingAdmin<A> {
         ensures kept { IsListed self.old.calls → self.new.inner ≡ self.old.inner }
         ensures counts { CountsCall self.old.calls self.new.calls }
         ensures later { ⟦<Self as Admin>⟧.faults self.old ≤ ⟦<Self as Admin>⟧.faults self.new }
-        ensures cause { IsErrOf result InstallFault.Failed → HasRisen (⟦<Self as Admin>⟧.faults self.old) (⟦<Self as Admin>⟧.faults self.new) }
+        ensures cause { IsErrOf result InstallFault.Failed
+            → HasRisen (⟦<Self as Admin>⟧.faults self.old) (⟦<Self as Admin>⟧.faults self.new) }
         ensures parts { OnOk result (A.parts self.new.inner ≡ length lists.now) }
-        ensures lists { OnOk result (A.told self.new.inner ≡ installed (A.told self.old.inner) lists.now) }
-        ensures failed { OnErr result ((A.parts self.new.inner ≡ A.parts self.old.inner) × (A.told self.new.inner ≡ A.told self.old.inner)) }
+        ensures lists { OnOk result
+            (A.told self.new.inner ≡ installed (A.told self.old.inner) lists.now) }
+        ensures failed { OnErr result
+            ((A.parts self.new.inner ≡ A.parts self.old.inner)
+            × (A.told self.new.inner ≡ A.told self.old.inner)) }
     {
         if self.calls.next_fails() {
             return Err(InstallFault::Failed);
@@ -69,9 +73,11 @@ impl<A: Admin> Admin for FailingAdmin<A> {
         ensures fails { IsListed self.old.calls → IsErr result }
         ensures kept { IsListed self.old.calls → self.new.inner ≡ self.old.inner }
         ensures counts { CountsCall self.old.calls self.new.calls }
-        ensures cause { HasCause (⟦<Self as Admin>⟧.faults self.old) (⟦<Self as Admin>⟧.faults self.new) result }
+        ensures cause { HasCause (⟦<Self as Admin>⟧.faults self.old)
+            (⟦<Self as Admin>⟧.faults self.new) result }
         ensures parts { A.parts self.new.inner ≡ A.parts self.old.inner }
-        ensures lists { OnOk result (A.told self.new.inner ≡ with_list (A.told self.old.inner) part union.now) }
+        ensures lists { OnOk result
+            (A.told self.new.inner ≡ with_list (A.told self.old.inner) part union.now) }
         ensures failed { OnErr result (A.told self.new.inner ≡ A.told self.old.inner) }
     {
         if self.calls.next_fails() {
@@ -86,9 +92,11 @@ impl<A: Admin> Admin for FailingAdmin<A> {
         ensures fails { IsListed self.old.calls → IsErr result }
         ensures kept { IsListed self.old.calls → self.new.inner ≡ self.old.inner }
         ensures counts { CountsCall self.old.calls self.new.calls }
-        ensures cause { HasCause (⟦<Self as Admin>⟧.faults self.old) (⟦<Self as Admin>⟧.faults self.new) result }
+        ensures cause { HasCause (⟦<Self as Admin>⟧.faults self.old)
+            (⟦<Self as Admin>⟧.faults self.new) result }
         ensures parts { A.parts self.new.inner ≡ A.parts self.old.inner }
-        ensures lists { OnOk result (A.told self.new.inner ≡ with_list (A.told self.old.inner) part after.now) }
+        ensures lists { OnOk result
+            (A.told self.new.inner ≡ with_list (A.told self.old.inner) part after.now) }
         ensures failed { OnErr result (A.told self.new.inner ≡ A.told self.old.inner) }
     {
         if self.calls.next_fails() {
@@ -103,9 +111,11 @@ impl<A: Admin> Admin for FailingAdmin<A> {
         ensures fails { IsListed self.old.calls → IsErr result }
         ensures kept { IsListed self.old.calls → self.new.inner ≡ self.old.inner }
         ensures counts { CountsCall self.old.calls self.new.calls }
-        ensures cause { HasCause (⟦<Self as Admin>⟧.faults self.old) (⟦<Self as Admin>⟧.faults self.new) result }
+        ensures cause { HasCause (⟦<Self as Admin>⟧.faults self.old)
+            (⟦<Self as Admin>⟧.faults self.new) result }
         ensures parts { A.parts self.new.inner ≡ A.parts self.old.inner }
-        ensures lists { OnOk result (A.told self.new.inner ≡ with_list (A.told self.old.inner) part before.now) }
+        ensures lists { OnOk result
+            (A.told self.new.inner ≡ with_list (A.told self.old.inner) part before.now) }
         ensures failed { OnErr result (A.told self.new.inner ≡ A.told self.old.inner) }
     {
         if self.calls.next_fails() {
@@ -154,8 +164,12 @@ impl<K: Copier> Copier for FailingCopier<K> {
         ensures kept { IsListed self.old.calls → self.new.inner ≡ self.old.inner }
         ensures counts { CountsCall self.old.calls self.new.calls }
         ensures later { ⟦<Self as Copier>⟧.faults self.old ≤ ⟦<Self as Copier>⟧.faults self.new }
-        ensures cause { IsErrOf result CopyFault.Failed → HasRisen (⟦<Self as Copier>⟧.faults self.old) (⟦<Self as Copier>⟧.faults self.new) }
-        ensures made { OnOk result (K.copies self.new.inner ≡ with_copy (K.copies self.old.inner) (record { part = part; to = to; chunk = chunk })) }
+        ensures cause { IsErrOf result CopyFault.Failed
+            → HasRisen (⟦<Self as Copier>⟧.faults self.old) (⟦<Self as Copier>⟧.faults self.new) }
+        ensures made { OnOk result
+            (K.copies self.new.inner
+            ≡ with_copy (K.copies self.old.inner)
+            (record { part = part; to = to; chunk = chunk })) }
         ensures failed { OnErr result (K.copies self.new.inner ≡ K.copies self.old.inner) }
     {
         if self.calls.next_fails() {

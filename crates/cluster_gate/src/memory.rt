@@ -7,7 +7,8 @@ use crate::admin::{Admin, InstallFault};
 use crate::copier::{ChunkCopy, Copier, CopyFault};
 use crate::held::HeldList;
 use cc_base::Failed;
-use load_model::{Assign, Memory, Replicas};
+use load_model::Assign;
+use plan_terms::{Memory, Replicas};
 use std::alloc::Global;
 
 /// The lists of a cluster in memory. A call fails only for want of memory.
@@ -30,7 +31,8 @@ impl MemoryCluster {
     /// The list of a partition.
     pub fn list(&self, part: u32) -> &[u32]
         requires { part < ⟦<Self as Admin>⟧.parts self.now }
-        ensures { IfSome (⟦<Self as Admin>⟧.told self.now) (λ lists. result.now ≡ list_of lists part) }
+        ensures { IfSome (⟦<Self as Admin>⟧.told self.now)
+            (λ lists. result.now ≡ list_of lists part) }
     {
         self.lists[part as usize].as_slice()
     }

@@ -1,15 +1,16 @@
 // Lists that are installed and changed, and copies, with calls that fail.
+ghost use Rattle.plan_terms.specs.Resources.{NW_OUT};
 ghost use Rattle.std.specs.Prelude.{◌≡◌, IfOk, length, slice_index};
 
 use super::*;
 use cc_base::Failed;
-use load_model::{Assign, Broker, BrokerState, Case, Loads, Options, Part, Ratio, Topic};
-use plan_terms::MinLeadersList;
+use load_model::{Assign, Case};
+use plan_terms::{Broker, BrokerState, Loads, MinLeadersList, Options, Part, Ratio, Topic};
 use std::alloc::Global;
 use std::test::Fail;
 
 fn part(alloc: Global, number: u32) -> Result<Part, Fail>
-    ensures { IfOk result (λ p. slice_index p.loads.follow 2 ≡ 0) }
+    ensures { IfOk result (λ p. slice_index p.loads.follow NW_OUT ≡ 0) }
 {
     Ok(Part {
         topic: Topic::new(String::from_str(alloc, "t")?),

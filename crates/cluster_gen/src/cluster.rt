@@ -56,7 +56,8 @@ pub fn cluster_text(
     requires brokers { (1 ≤ brokers) × (brokers ≤ 200) }
     requires partitions { partitions ≤ 10000 }
     ensures text { IfOk result (λ text. text.items ≡ cluster_text seed brokers partitions) }
-    ensures reads { IfOk result (λ text. read text.items ≡ Some (cluster_data seed brokers partitions)) }
+    ensures reads { IfOk result
+        (λ text. read text.items ≡ Some (cluster_data seed brokers partitions)) }
 {
     let value = cluster_value(alloc, seed, brokers, partitions)?;
     Ok(value.to_vec(alloc)?)

@@ -27,8 +27,10 @@ impl Draws {
     #[tactic(auto, unfolding(crate::specs::Draws::draw))]
     pub fn below(&mut self, limit: u32) -> u32
         requires { 0 < limit }
-        ensures value { (seed place : ℕ) → self.old.state ≡ state_after place seed → result ≡ draw seed place limit }
-        ensures next { (seed place : ℕ) → self.old.state ≡ state_after place seed → self.new.state ≡ state_after (place + 1) seed }
+        ensures value { (seed place : ℕ) → self.old.state ≡ state_after place seed
+            → result ≡ draw seed place limit }
+        ensures next { (seed place : ℕ) → self.old.state ≡ state_after place seed
+            → self.new.state ≡ state_after (place + 1) seed }
         ensures within { result < limit }
     {
         let state = (MULTIPLIER * self.state as u64 + INCREMENT) % MODULUS;

@@ -6,7 +6,5 @@ mod cluster;
 mod draws;
 mod loads;
 mod partitions;
-#[cfg(test)]
-mod tests;
 
 pub use cluster::cluster_text;

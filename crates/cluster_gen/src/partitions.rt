@@ -13,8 +13,10 @@ use std::alloc::{AllocError, Global};
 const TOPICS: u32 = 50;
 
 fn draw_loads(draws: &mut Draws) -> Loads
-    ensures loads { (seed i : ℕ) → draws.old.state ≡ state_after (5 * i + 1) seed → result ≡ loads_of seed i }
-    ensures next { (seed i : ℕ) → draws.old.state ≡ state_after (5 * i + 1) seed → draws.new.state ≡ state_after (5 * (i + 1)) seed }
+    ensures loads { (seed i : ℕ) → draws.old.state ≡ state_after (5 * i + 1) seed
+        → result ≡ loads_of seed i }
+    ensures next { (seed i : ℕ) → draws.old.state ≡ state_after (5 * i + 1) seed
+        → draws.new.state ≡ state_after (5 * (i + 1)) seed }
 {
     let network_in = draws.below(100);
     let network_out = draws.below(200);
@@ -74,8 +76,10 @@ fn partition_value(
 ) -> Result<Value, AllocError>
     requires some { 1 ≤ brokers }
     requires many { brokers ≤ 200 }
-    ensures value { (seed : ℕ) → draws.old.state ≡ state_after (5 * number) seed → IfOk result (λ v. view v ≡ partition_data seed brokers number) }
-    ensures next { (seed : ℕ) → draws.old.state ≡ state_after (5 * number) seed → OnOk result (draws.new.state ≡ state_after (5 * (number + 1)) seed) }
+    ensures value { (seed : ℕ) → draws.old.state ≡ state_after (5 * number) seed
+        → IfOk result (λ v. view v ≡ partition_data seed brokers number) }
+    ensures next { (seed : ℕ) → draws.old.state ≡ state_after (5 * number) seed
+        → OnOk result (draws.new.state ≡ state_after (5 * (number + 1)) seed) }
 {
     let first = draws.below(brokers);
     let loads = draw_loads(draws);
@@ -98,7 +102,8 @@ pub fn partition_values(
 ) -> Result<Vec<Value>, AllocError>
     requires seed { seed < 2147483648 }
     requires brokers { (1 ≤ brokers) × (brokers ≤ 200) }
-    ensures { IfOk result (λ v. map view v.items ≡ map (partition_data seed brokers) (numbers_below partitions)) }
+    ensures { IfOk result
+        (λ v. map view v.items ≡ map (partition_data seed brokers) (numbers_below partitions)) }
 {
     let mut draws = Draws::new(seed);
     let mut values = Vec::new(alloc);

@@ -9,20 +9,14 @@ use Rattle.serde_json.specs.Read.{read}
 use Rattle.plan_terms.specs.declared.cluster.Part.{Part}
 use Rattle.cluster_json.specs.Faults.{not_json}
 use Rattle.cluster_json.specs.File.{meaning_of, file_at, file_where}
-use Rattle.cluster_json.specs.Ranges.{AreLoads, IsSample}
-use Rattle.cluster_json.specs.Views.{sample_seen}
+use Rattle.cluster_json.specs.Ranges.{AreLoads}
 use Rattle.cluster_json.specs.declared.partitions.FilePart.{FilePart}
-use Rattle.cluster_json.specs.declared.samples.Placed.{Placed}
 
 -- followers send nothing to clients
 pub silent-map : (parts : List FilePart) → All (λ p. AreLoads p.part.loads) parts → All (λ (p : Part). slice_index p.loads.follow 2 ≡ 0) (map (λ p. p.part) parts)
 silent-map parts loads =
     All-map (λ (p : Part). slice_index p.loads.follow 2 ≡ 0) (λ p. p.part) parts
     (All-weaker (λ (p : FilePart). AreLoads p.part.loads) (λ (p : FilePart). slice_index p.part.loads.follow 2 ≡ 0) (λ p h. h.silent) parts loads)
-
--- the samples stay samples of so many partitions
-pub samples-map : (n m : ℕ) (placed : List Placed) → n ≡ m → All (λ s. IsSample m (sample_seen s)) placed → All (IsSample n) (map sample_seen placed)
-samples-map n m placed same all = rw same (All-map (IsSample m) sample_seen placed all)
 
 -- bytes that are read mean what their value means
 pub meaning_of-read : (bytes : List ℕ) (d : Data) → IsUtf8 bytes → read bytes ≡ Some d → meaning_of bytes ≡ file_at d

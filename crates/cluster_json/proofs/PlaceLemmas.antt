@@ -4,14 +4,15 @@ use Rattle.std.specs.Map.{lookup}
 use Rattle.std.proofs.lemmas.List.{length-map}
 use Rattle.plan_terms.specs.declared.cluster.Part.{Part}
 use Rattle.cluster_json.specs.declared.partitions.FilePart.{FilePart}
-use Rattle.cluster_json.specs.Places.{Name, or_else}
+use Rattle.std.specs.Option.{option_or}
+use Rattle.cluster_json.specs.Places.{Name}
 use Rattle.cluster_json.specs.Samples.{place_from, place_of, is_named}
 
 -- what is looked up behind one entry more
-pub lookup-push : (test : Name → Bool) (es : List (Name × ℕ)) (k : Name) (v : ℕ) → lookup test (es ++ (k, v) ∷ []) ≡ or_else (lookup test es) (cond (test k) (Some v) None)
+pub lookup-push : (test : Name → Bool) (es : List (Name × ℕ)) (k : Name) (v : ℕ) → lookup test (es ++ (k, v) ∷ []) ≡ option_or (lookup test es) (cond (test k) (Some v) None)
 lookup-push test [] k v = refl
 lookup-push test (e ∷ es) k v =
-    elim (test e.0) as (λ b. cond b (Some e.1) (lookup test (es ++ (k, v) ∷ [])) ≡ or_else (cond b (Some e.1) (lookup test es)) (cond (test k) (Some v) None))
+    elim (test e.0) as (λ b. cond b (Some e.1) (lookup test (es ++ (k, v) ∷ [])) ≡ option_or (cond b (Some e.1) (lookup test es)) (cond (test k) (Some v) None))
     [ true ↦ refl | false ↦ lookup-push test es k v ]
 
 pub none_from : {X : Type 0} (o : Option X) → false ≡ is_some o → o ≡ None

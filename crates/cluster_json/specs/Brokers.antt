@@ -1,10 +1,10 @@
 -- The brokers of a file.
-use Rattle.std.specs.Prelude.{ℕ, ◌^◌, List, [], bytes_eq, if◌then◌else◌, Option, Some, None, Ok, Err, codes}
+use Rattle.std.specs.Prelude.{ℕ, List, [], bytes_eq, if◌then◌else◌, Option, Some, None, Ok, Err, codes}
 use Rattle.serde_json.specs.Data.{Data}
 use Rattle.plan_terms.specs.declared.cluster.BrokerState.{BrokerState}
 use Rattle.plan_terms.specs.declared.cluster.BrokerState.TheVariants.{Alive, Dead, New, Demoted}
 use Rattle.cluster_json.specs.Faults.{Read, wrong_shape, ◌>>=◌}
-use Rattle.cluster_json.specs.Shapes.{inside, object_at, number_at, text_at, required, optional}
+use Rattle.cluster_json.specs.Shapes.{inside, id_at, object_at, text_at, required, optional}
 use Rattle.cluster_json.specs.declared.brokers.FileBroker.{FileBroker}
 
 -- the rack's name
@@ -26,7 +26,7 @@ state_at d = text_at d >>= state_of
 unfoldable pub broker_at : Data → Read FileBroker
 broker_at d = do
   is ← object_at d
-  id ← inside (codes "id") (required (number_at 0 (2 ^ 31))) d
+  id ← inside (codes "id") (required id_at) d
   rack ← inside (codes "rack") (optional None rack_at) d
   state ← inside (codes "state") (optional Alive state_at) d
   Ok (record { id = id; rack = rack; state = state })

@@ -2,7 +2,7 @@
 use Rattle.std.specs.Prelude.{ℕ, suc, ◌^◌, ◌==◌, Bool, ◌&&◌, nat_lt, nat_le, List, [], ◌∷◌, ◌++◌, length, bytes_eq, if◌then◌else◌, Option, Some, None, nat_eq, is_some, Ok, Err, codes}
 use Rattle.std.specs.List.{list_all, before_first, after_first}
 use Rattle.std.specs.Map.{lookup}
-use Rattle.std.specs.Option.{option_eq}
+use Rattle.std.specs.Option.{option_eq, option_or}
 use Rattle.serde_json.specs.Data.{Data, Items, no_items, item}
 use Rattle.serde_json.specs.Find.{as_object}
 use Rattle.plan_terms.specs.Digits.{number_of, is_point, has_point}
@@ -10,6 +10,7 @@ use Rattle.plan_terms.specs.declared.cluster.Broker.{Broker}
 use Rattle.cluster_json.specs.Faults.{Read, wrong_shape, bad_number, unsupported, missing_capacity, under, ◌>>=◌, index_step}
 use Rattle.cluster_json.specs.Shapes.{inside, object_at, text_at, note_at, list_at, required, optional}
 use Rattle.cluster_json.specs.declared.brokers.FileBroker.{FileBroker}
+use Rattle.plan_terms.specs.Bytes.{digit_0}
 
 -- the broker of an entry, or none where the entry is for all brokers without one of their own
 abbrev pub Owner : Type 0
@@ -45,7 +46,7 @@ owner_at seen d = text_at d >>= owner_of >>= new_owner seen
 
 -- one or more zeros
 abbrev pub are_zeros : List ℕ → Bool
-are_zeros s = nat_le 1 (length s) && list_all (λ b. b == 48) s
+are_zeros s = nat_le 1 (length s) && list_all (λ b. b == digit_0) s
 
 -- 1 to 13 digits, and perhaps a point and zeros
 unfoldable pub amount_of : List ℕ → Option ℕ
@@ -95,11 +96,6 @@ entries_from i seen (item d ds) = under (index_step i) (entry_at seen d) >>= (λ
 abbrev pub entries_at : Data → Read (Option (List Entry))
 entries_at d = list_at d >>= (λ ds. entries_from 0 [] ds >>= (λ entries. Ok (Some entries)))
 
--- the first that there is
-abbrev pub either : Option (List ℕ) → Option (List ℕ) → Option (List ℕ)
-either (Some cap) other = Some cap
-either None other = other
-
 -- every capacity is 2^40 - 1
 abbrev pub full_cap : List ℕ
 full_cap = 1099511627775 ∷ 1099511627775 ∷ 1099511627775 ∷ 1099511627775 ∷ []
@@ -107,7 +103,7 @@ full_cap = 1099511627775 ∷ 1099511627775 ∷ 1099511627775 ∷ 1099511627775 �
 -- a broker's own entry, else the one for all; where the file has no entries, every capacity is full
 unfoldable pub cap_of : Option (List Entry) → ℕ → Option (List ℕ)
 cap_of None b = Some full_cap
-cap_of (Some entries) b = either (entry_of entries (Some b)) (entry_of entries None)
+cap_of (Some entries) b = option_or (entry_of entries (Some b)) (entry_of entries None)
 
 -- the capacities, or that the broker has none
 abbrev pub or_missing : ℕ → Option (List ℕ) → Read (List ℕ)

@@ -6,7 +6,6 @@ use Rattle.plan_terms.specs.Fraction.{Fraction}
 use Rattle.plan_terms.specs.declared.cluster.Options.{Options}
 use Rattle.cluster_json.specs.Faults.{Read, wrong_shape, bad_config, ◌>>=◌}
 use Rattle.cluster_json.specs.Settings.{is_setting, ratio_setting, whole_setting}
-use Rattle.cluster_json.specs.declared.settings.RatioForm.TheVariants.{Any, FromOne, ToOne}
 use Rattle.plan_terms.specs.declared.settings.Caps.{Caps}
 use Rattle.plan_terms.specs.declared.settings.WindowRules.{WindowRules}
 use Rattle.cluster_json.specs.declared.config.Config.{Config}
@@ -25,39 +24,31 @@ settings_where (Some members) = settings_of members
 unfoldable pub settings_at : Data → Read (Unit {0})
 settings_at d = settings_where (as_object d)
 
--- so many hundredths
-abbrev pub hundredths : ℕ → Fraction
-hundredths n = record { num = n; den = 100 }
-
--- the share of a capacity that may be used: any ratio
-abbrev pub share : List ℕ → Option Data → Fraction
-share name config = ratio_setting Any name (hundredths 80) config
-
--- how far use may lie above the average: a ratio of at least 1
-abbrev pub balance : List ℕ → ℕ → Option Data → Fraction
-balance name default config = ratio_setting FromOne name (hundredths default) config
-
 -- the capacity thresholds of CPU, NW_IN, NW_OUT and DISK
 abbrev pub limits_of : Option Data → List Fraction
 limits_of config =
-    share (codes "cpu.capacity.threshold") config ∷ share (codes "network.inbound.capacity.threshold") config
-    ∷ share (codes "network.outbound.capacity.threshold") config ∷ share (codes "disk.capacity.threshold") config ∷ []
+    ratio_setting (codes "cpu.capacity.threshold") config
+    ∷ ratio_setting (codes "network.inbound.capacity.threshold") config
+    ∷ ratio_setting (codes "network.outbound.capacity.threshold") config
+    ∷ ratio_setting (codes "disk.capacity.threshold") config ∷ []
 
 -- and their balance thresholds
 abbrev pub balances_of : Option Data → List Fraction
 balances_of config =
-    balance (codes "cpu.balance.threshold") 110 config ∷ balance (codes "network.inbound.balance.threshold") 110 config
-    ∷ balance (codes "network.outbound.balance.threshold") 110 config ∷ balance (codes "disk.balance.threshold") 110 config ∷ []
+    ratio_setting (codes "cpu.balance.threshold") config
+    ∷ ratio_setting (codes "network.inbound.balance.threshold") config
+    ∷ ratio_setting (codes "network.outbound.balance.threshold") config
+    ∷ ratio_setting (codes "disk.balance.threshold") config ∷ []
 
 -- the goals' thresholds; the least leaders are no setting
 unfoldable pub options_of : Option Data → Options
 options_of config = record {
   limit = limits_of config;
   balance = balances_of config;
-  replica_balance = balance (codes "replica.count.balance.threshold") 110 config;
-  leader_balance = balance (codes "leader.replica.count.balance.threshold") 110 config;
-  topic_balance = balance (codes "topic.replica.count.balance.threshold") 300 config;
-  max_replicas = whole_setting 0 1000000 (codes "max.replicas.per.broker") 10000 config;
+  replica_balance = ratio_setting (codes "replica.count.balance.threshold") config;
+  leader_balance = ratio_setting (codes "leader.replica.count.balance.threshold") config;
+  topic_balance = ratio_setting (codes "topic.replica.count.balance.threshold") config;
+  max_replicas = whole_setting (codes "max.replicas.per.broker") config;
   leads_only = false;
   min_leaders = [];
 }
@@ -65,23 +56,23 @@ options_of config = record {
 -- how many movements there may be at a time
 unfoldable pub caps_of : Option Data → Caps
 caps_of config = record {
-  broker = whole_setting 1 10000 (codes "num.concurrent.partition.movements.per.broker") 10 config;
-  cluster = whole_setting 1 10000 (codes "max.num.cluster.movements") 1250 config;
-  leader = whole_setting 1 10000 (codes "num.concurrent.leader.movements") 1000 config;
+  broker = whole_setting (codes "num.concurrent.partition.movements.per.broker") config;
+  cluster = whole_setting (codes "max.num.cluster.movements") config;
+  leader = whole_setting (codes "num.concurrent.leader.movements") config;
 }
 
 -- the windows of samples
 unfoldable pub rules_of : Option Data → WindowRules
 rules_of config = record {
-  width = whole_setting 1 86400000 (codes "partition.metrics.window.ms") 300000 config;
-  keep = whole_setting 1 100 (codes "num.partition.metrics.windows") 5 config;
-  least = whole_setting 1 65536 (codes "min.samples.per.partition.metrics.window") 1 config;
-  need = whole_setting 1 100 (codes "min.valid.windows") 1 config;
+  width = whole_setting (codes "partition.metrics.window.ms") config;
+  keep = whole_setting (codes "num.partition.metrics.windows") config;
+  least = whole_setting (codes "min.samples.per.partition.metrics.window") config;
+  need = whole_setting (codes "min.valid.windows") config;
 }
 
 -- the share of partitions that have to have a load
 unfoldable pub valid_ratio_of : Option Data → Fraction
-valid_ratio_of config = ratio_setting ToOne (codes "min.valid.partition.ratio") (hundredths 95) config
+valid_ratio_of config = ratio_setting (codes "min.valid.partition.ratio") config
 
 -- what the settings say, and the defaults where they say nothing
 unfoldable pub config_of : Option Data → Config

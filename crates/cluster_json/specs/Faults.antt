@@ -1,4 +1,5 @@
 -- What is wrong with a cluster file, and where.
+use Rattle.plan_terms.specs.Bytes.{slash}
 use Rattle.std.specs.Prelude.{ℕ, List, ◌∷◌, ◌++◌, Result, Ok, Err, decimal}
 use Rattle.plan_terms.specs.declared.faults.CaseFault.{CaseFault}
 
@@ -42,8 +43,8 @@ under step (Err e) = Err (deeper step e)
 
 -- the step to the member of this name
 abbrev pub member_step : List ℕ → List ℕ
-member_step name = 47 ∷ name
+member_step name = slash ∷ name
 
 -- the step to the item at this index
 abbrev pub index_step : ℕ → List ℕ
-index_step i = 47 ∷ decimal i
+index_step i = slash ∷ decimal i

@@ -5,8 +5,8 @@ use Rattle.serde_json.specs.Data.{Data}
 use Rattle.serde_json.specs.Read.{read}
 use Rattle.cluster_json.specs.Faults.{Read, not_json, ◌>>=◌}
 use Rattle.cluster_json.specs.Loads.{loads_at}
-use Rattle.cluster_json.specs.Partitions.{topic_at, id_at}
-use Rattle.cluster_json.specs.Shapes.{inside, object_at, number_at, required}
+use Rattle.cluster_json.specs.Partitions.{topic_at}
+use Rattle.cluster_json.specs.Shapes.{inside, id_at, object_at, number_at, required}
 use Rattle.cluster_json.specs.declared.named.NamedSample.{NamedSample}
 
 -- an object of `topic`, `partition`, `time` and `load`

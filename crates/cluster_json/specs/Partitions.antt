@@ -4,13 +4,14 @@ use Rattle.std.specs.List.{list_all}
 use Rattle.serde_json.specs.Data.{Data, Items, no_items, item}
 use Rattle.plan_terms.specs.declared.cluster.Loads.{Loads}
 use Rattle.cluster_json.specs.Faults.{Read, bad_topic, index_step, under, ◌>>=◌}
-use Rattle.cluster_json.specs.Shapes.{inside, object_at, number_at, text_at, note_at, list_at, all_at, required, optional}
+use Rattle.cluster_json.specs.Shapes.{inside, id_at, object_at, number_at, text_at, note_at, list_at, all_at, required, optional}
 use Rattle.cluster_json.specs.Loads.{loads_at, no_loads}
 use Rattle.cluster_json.specs.declared.partitions.FilePart.{FilePart}
+use Rattle.plan_terms.specs.Bytes.{hyphen, point, digit_0, digit_9, upper_a, upper_z, underscore, lower_a, lower_z}
 
 -- an ASCII letter or digit, `.`, `_` or `-`
 abbrev pub is_topic_byte : ℕ → Bool
-is_topic_byte b = (nat_le 97 b && nat_le b 122) || (nat_le 65 b && nat_le b 90) || (nat_le 48 b && nat_le b 57) || (b == 46) || (b == 95) || (b == 45)
+is_topic_byte b = (nat_le lower_a b && nat_le b lower_z) || (nat_le upper_a b && nat_le b upper_z) || (nat_le digit_0 b && nat_le b digit_9) || (b == point) || (b == underscore) || (b == hyphen)
 
 -- 1 to 249 such characters, but neither `.` nor `..`
 abbrev pub is_topic : List ℕ → Bool
@@ -19,10 +20,6 @@ is_topic s = nat_le 1 (length s) && nat_le (length s) 249 && list_all is_topic_b
 -- a topic's name
 unfoldable pub topic_at : Data → Read (List ℕ)
 topic_at d = text_at d >>= (λ s. if is_topic s then Ok s else Err (bad_topic []))
-
--- the id of a broker, or the number of a partition
-abbrev pub id_at : Data → Read ℕ
-id_at = number_at 0 (2 ^ 31)
 
 -- the replica list
 abbrev pub replicas_at : Data → Read (List ℕ)

@@ -1,5 +1,5 @@
 -- The ranges that a file that was read keeps.
-use Rattle.std.specs.Prelude.{◌≡◌, ℕ, ◌^◌, ◌<◌, ◌≤◌, length, slice_index}
+use Rattle.std.specs.Prelude.{◌≡◌, ℕ, List, ◌^◌, ◌<◌, ◌≤◌, length, slice_index}
 use Rattle.std.specs.List.{All}
 use Rattle.plan_terms.specs.Belongs.{Belongs}
 use Rattle.plan_terms.specs.Fraction.{Fraction}
@@ -7,13 +7,19 @@ use Rattle.plan_terms.specs.declared.cluster.Loads.{Loads}
 use Rattle.plan_terms.specs.declared.settings.Caps.{Caps}
 use Rattle.plan_terms.specs.declared.settings.WindowRules.{WindowRules}
 use Rattle.cluster_json.specs.declared.file.ClusterFile.{ClusterFile}
+use Rattle.plan_terms.specs.Resources.{NW_OUT}
 use Rattle.plan_terms.specs.declared.settings.Sample.{Sample}
+
+-- values below 2^32, and nothing sent to clients
+pub record IsSilent (r : List ℕ) : Type 0 where
+  pub small : All (λ x. x < 2 ^ 32) r
+  pub silent : slice_index r NW_OUT ≡ 0
 
 -- values below 2^32, and a follower that sends nothing to clients
 pub record AreLoads (l : Loads) : Type 0 where
   pub lead : All (λ x. x < 2 ^ 32) l.lead
   pub follow : All (λ x. x < 2 ^ 32) l.follow
-  pub silent : slice_index l.follow 2 ≡ 0
+  pub silent : slice_index l.follow NW_OUT ≡ 0
 
 -- each cap is 1 to 10,000
 pub record AreCaps (c : Caps) : Type 0 where
@@ -34,6 +40,11 @@ pub record AreRules (r : WindowRules) : Type 0 where
   pub few_least : r.least ≤ 65536
   pub some_need : 1 ≤ r.need
   pub few_need : r.need ≤ 100
+
+-- at least the one and below the other
+pub record IsWithin (least limit n : ℕ) : Type 0 where
+  pub at_least : least ≤ n
+  pub below : n < limit
 
 -- at most 1
 pub record IsShare (f : Fraction) : Type 0 where

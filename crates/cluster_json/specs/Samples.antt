@@ -3,9 +3,9 @@ use Rattle.std.specs.Prelude.{ℕ, suc, ◌^◌, ◌==◌, Bool, ◌&&◌, List,
 use Rattle.serde_json.specs.Data.{Data}
 use Rattle.plan_terms.specs.declared.cluster.Part.{Part}
 use Rattle.cluster_json.specs.Faults.{Read, wrong_shape, ◌>>=◌}
-use Rattle.cluster_json.specs.Shapes.{inside, object_at, number_at, all_at, required}
+use Rattle.cluster_json.specs.Shapes.{inside, id_at, object_at, number_at, all_at, required}
 use Rattle.cluster_json.specs.Loads.{loads_at}
-use Rattle.cluster_json.specs.Partitions.{topic_at, id_at}
+use Rattle.cluster_json.specs.Partitions.{topic_at}
 use Rattle.plan_terms.specs.declared.settings.Sample.{Sample}
 
 -- the partition has this topic and number

@@ -1,5 +1,5 @@
 -- Numbers, texts, lists and objects of a file.
-use Rattle.std.specs.Prelude.{ℕ, suc, List, [], ◌∷◌, nat_lt, nat_le, ◌&&◌, if◌then◌else◌, Option, Some, None, Ok, Err, is_some}
+use Rattle.std.specs.Prelude.{ℕ, suc, ◌^◌, List, [], ◌∷◌, nat_lt, nat_le, ◌&&◌, if◌then◌else◌, Option, Some, None, Ok, Err, is_some}
 use Rattle.serde_json.specs.Data.{Data, Num, Items, no_items, item}
 use Rattle.serde_json.specs.Find.{get, as_number, as_u64, as_str, as_array, as_object}
 use Rattle.cluster_json.specs.Faults.{Read, wrong_shape, bad_number, under, ◌>>=◌, member_step, index_step}
@@ -19,6 +19,10 @@ whole_in_range least limit (Some n) = in_range least limit (as_u64 n)
 -- a whole number that is at least the one and below the other; it has no point, no exponent and no sign
 unfoldable pub number_at : ℕ → ℕ → Data → Read ℕ
 number_at least limit d = whole_in_range least limit (as_number d)
+
+-- the id of a broker, or the number of a partition
+abbrev pub id_at : Data → Read ℕ
+id_at = number_at 0 (2 ^ 31)
 
 abbrev or_wrong_shape : {A : Type 0} → Option A → Read A
 or_wrong_shape None = Err (wrong_shape [])

@@ -8,18 +8,12 @@ use Rattle.cluster_json.specs.Capacities.{Owner, Entry}
 use Rattle.cluster_json.specs.File.{FileMembers, Meaning}
 use Rattle.cluster_json.specs.declared.file.ClusterFile.{ClusterFile}
 use Rattle.cluster_json.specs.declared.file.FileMembers.{FileMembers as RustMembers}
-use Rattle.plan_terms.specs.declared.settings.Sample.{Sample}
-use Rattle.cluster_json.specs.declared.samples.Placed.{Placed}
 use Rattle.cluster_json.specs.declared.leaders.Entry.{Entry as LeadersEntry}
 use Rattle.plan_terms.specs.declared.cluster.MinLeaders.{MinLeaders}
 
 -- the entries of a file, where it has them
 abbrev pub entries_seen : Option (HashMap Owner (List ℕ) (BuildHasherDefault FoldHasher)) → Option (List Entry)
 entries_seen = option_map (λ m. m.entries)
-
--- a sample with the place of its partition
-abbrev pub sample_seen : Placed → Sample
-sample_seen s = record { part = s.place; time = s.time; loads = s.loads }
 
 -- texts
 abbrev pub texts_seen : List (Bor (List ℕ)) → List (List ℕ)
@@ -31,7 +25,7 @@ entry_seen e = record { topic = e.topic.now; leaders = e.leaders }
 
 -- the members of a file
 abbrev pub members_seen : RustMembers → FileMembers
-members_seen m = record { brokers = m.brokers.items; parts = m.parts.items; config = m.config; samples = map sample_seen m.samples.items; min_leaders = m.min_leaders }
+members_seen m = record { brokers = m.brokers.items; parts = m.parts; config = m.config; samples = m.samples; min_leaders = m.min_leaders }
 
 -- a file
 abbrev pub file_seen : ClusterFile → Meaning

@@ -7,11 +7,12 @@ ghost use Rattle.cluster_json.specs.Faults.{index_step, under};
 ghost use Rattle.cluster_json.specs.Reading.{Gives};
 ghost use Rattle.cluster_json.specs.Shapes.{inside, note_at, optional, required};
 ghost use Rattle.cluster_json.specs.Views.{entries_seen};
+ghost use Rattle.plan_terms.specs.Bytes.{digit_0};
 
 use crate::FileRefusal;
 use crate::brokers::FileBroker;
-use crate::refusal::{bad_number, in_item, in_member, wrong_shape};
-use crate::shape::{check_note, check_object, read_list, read_text};
+use crate::refusal::{bad_number, in_member, wrong_shape};
+use crate::shape::{Note, Shape, check_object, item, optional, read_list, read_text, required};
 use indexmap::IndexMap;
 use plan_terms::{Broker, Res4, read_digits};
 use serde_json::Value;
@@ -40,7 +41,8 @@ fn owner_named(alloc: Global, text: &str) -> Result<Owner, FileRefusal>
 
 #[tactic(auto, unfolding(crate::specs::Capacities::new_owner))]
 fn new_owner(alloc: Global, seen: &Entries, owner: Owner) -> Result<Owner, FileRefusal>
-    ensures { Gives (λ o. o) result (new_owner seen.now.entries owner) }
+    ensures means { Gives (λ o. o) result (new_owner seen.now.entries owner) }
+    ensures new { IfOk result (λ o. entry_of seen.now.entries o ≡ None) }
 {
     if seen.contains_key(&owner) {
         Err(wrong_shape(alloc))
@@ -49,29 +51,28 @@ fn new_owner(alloc: Global, seen: &Entries, owner: Owner) -> Result<Owner, FileR
     }
 }
 
-fn read_owner(alloc: Global, seen: &Entries, value: Option<&Value>) -> Result<Owner, FileRefusal>
-    ensures { Gives (λ o. o) result (required (owner_at seen.now.entries) (option_map (λ v. view v.now) value.entry)) }
-{
-    let Some(value) = value else {
-        return Err(wrong_shape(alloc));
-    };
-    let text = read_text(alloc, value)?;
-    let owner = owner_named(alloc, text)?;
-    new_owner(alloc, seen, owner)
+/// The id of a broker as a text, or `-1`, that no entry so far has.
+#[derive(Drop)]
+struct OwnerText<'m> {
+    seen: &'m Entries,
 }
 
-#[tactic(auto, using(crate::proofs::Fails::fails_under))]
-fn owner_in(alloc: Global, seen: &Entries, object: &Value) -> Result<Owner, FileRefusal>
-    ensures { Gives (λ o. o) result (inside (codes "brokerId") (required (owner_at seen.now.entries)) (view object.now)) }
-{
-    match read_owner(alloc, seen, object.get("brokerId")) {
-        Ok(owner) => Ok(owner),
-        Err(e) => Err(in_member(alloc, "brokerId", e)),
+impl Shape for OwnerText<'_> {
+    type Out = Owner;
+
+    ghost meaning = { λ s. owner_at s.seen.now.entries };
+
+    ghost Keeps = { λ s owner. entry_of s.seen.now.entries owner ≡ None };
+
+    fn read(&self, alloc: Global, value: &Value) -> Result<Owner, FileRefusal> {
+        let text = read_text(alloc, value)?;
+        let owner = owner_named(alloc, text)?;
+        new_owner(alloc, self.seen, owner)
     }
 }
 
 fn only_zeros(text: &str) -> bool
-    ensures { result ≡ list_all (λ b. b == 48) text.now }
+    ensures { result ≡ list_all (λ b. b == digit_0) text.now }
 {
     text.as_bytes().iter().all(|b| *b == b'0')
 }
@@ -108,139 +109,77 @@ fn below_limit(alloc: Global, amount: Option<u64>) -> Result<u64, FileRefusal>
     }
 }
 
-#[tactic(auto, unfolding(crate::specs::Capacities::amount_at))]
-fn read_amount(alloc: Global, value: &Value) -> Result<u64, FileRefusal>
-    ensures { Gives (λ n. n) result (amount_at (view value.now)) }
-{
-    match read_text(alloc, value) {
-        Ok(text) => below_limit(alloc, amount_of(text)),
-        Err(e) => Err(e),
+/// A text of a whole number below 2^40.
+struct Amount;
+
+impl Shape for Amount {
+    type Out = u64;
+
+    ghost meaning = { λ _. amount_at };
+
+    #[tactic(auto, unfolding(crate::specs::Capacities::amount_at))]
+    fn read(&self, alloc: Global, value: &Value) -> Result<u64, FileRefusal> {
+        let text = read_text(alloc, value)?;
+        below_limit(alloc, amount_of(text))
     }
 }
 
-#[tactic(auto, unfolding(crate::specs::Capacities::plain_amount_at))]
-fn read_plain_amount(alloc: Global, value: &Value) -> Result<u64, FileRefusal>
-    ensures { Gives (λ n. n) result (plain_amount_at (view value.now)) }
-{
-    match value.as_object() {
-        Some(_) => Err(FileRefusal::Unsupported(String::new(alloc))),
-        None => read_amount(alloc, value),
+/// The same, where an object would give more than one disk, or the number of cores.
+struct PlainAmount;
+
+impl Shape for PlainAmount {
+    type Out = u64;
+
+    ghost meaning = { λ _. plain_amount_at };
+
+    #[tactic(auto, unfolding(crate::specs::Capacities::plain_amount_at))]
+    fn read(&self, alloc: Global, value: &Value) -> Result<u64, FileRefusal> {
+        match value.as_object() {
+            Some(_) => Err(FileRefusal::Unsupported(String::new(alloc))),
+            None => Amount.read(alloc, value),
+        }
     }
 }
 
-fn required_amount(alloc: Global, value: Option<&Value>) -> Result<u64, FileRefusal>
-    ensures { Gives (λ n. n) result (required amount_at (option_map (λ v. view v.now) value.entry)) }
-{
-    match value {
-        Some(value) => read_amount(alloc, value),
-        None => Err(wrong_shape(alloc)),
+/// The capacities of an entry.
+struct CapacityObject;
+
+impl Shape for CapacityObject {
+    type Out = Res4;
+
+    ghost meaning = { λ _. capacity_at };
+
+    #[tactic(auto, unfolding(crate::specs::Capacities::capacity_at))]
+    fn read(&self, alloc: Global, value: &Value) -> Result<Res4, FileRefusal> {
+        check_object(alloc, value)?;
+        let disk = required(alloc, value, "DISK", &PlainAmount)?;
+        let cpu = required(alloc, value, "CPU", &PlainAmount)?;
+        let nw_in = required(alloc, value, "NW_IN", &Amount)?;
+        let nw_out = required(alloc, value, "NW_OUT", &Amount)?;
+        Ok([cpu, nw_in, nw_out, disk])
     }
 }
 
-fn required_plain_amount(alloc: Global, value: Option<&Value>) -> Result<u64, FileRefusal>
-    ensures { Gives (λ n. n) result (required plain_amount_at (option_map (λ v. view v.now) value.entry)) }
-{
-    match value {
-        Some(value) => read_plain_amount(alloc, value),
-        None => Err(wrong_shape(alloc)),
-    }
+/// An entry whose broker no entry so far has.
+#[derive(Drop)]
+struct EntryObject<'m> {
+    seen: &'m Entries,
 }
 
-#[tactic(auto, using(crate::proofs::Fails::fails_under))]
-fn amount_in(alloc: Global, object: &Value, name: &str) -> Result<u64, FileRefusal>
-    ensures { Gives (λ n. n) result (inside name.now (required amount_at) (view object.now)) }
-{
-    match required_amount(alloc, object.get(name)) {
-        Ok(amount) => Ok(amount),
-        Err(e) => Err(in_member(alloc, name, e)),
-    }
-}
+impl Shape for EntryObject<'_> {
+    type Out = (Owner, Res4);
 
-#[tactic(auto, using(crate::proofs::Fails::fails_under))]
-fn plain_amount_in(alloc: Global, object: &Value, name: &str) -> Result<u64, FileRefusal>
-    ensures { Gives (λ n. n) result (inside name.now (required plain_amount_at) (view object.now)) }
-{
-    match required_plain_amount(alloc, object.get(name)) {
-        Ok(amount) => Ok(amount),
-        Err(e) => Err(in_member(alloc, name, e)),
-    }
-}
+    ghost meaning = { λ s. entry_at s.seen.now.entries };
 
-#[tactic(auto, unfolding(crate::specs::Capacities::capacity_at))]
-fn read_capacity(alloc: Global, value: &Value) -> Result<Res4, FileRefusal>
-    ensures { Gives (λ r. r) result (capacity_at (view value.now)) }
-{
-    check_object(alloc, value)?;
-    let disk = plain_amount_in(alloc, value, "DISK")?;
-    let cpu = plain_amount_in(alloc, value, "CPU")?;
-    let nw_in = amount_in(alloc, value, "NW_IN")?;
-    let nw_out = amount_in(alloc, value, "NW_OUT")?;
-    Ok([cpu, nw_in, nw_out, disk])
-}
+    ghost Keeps = { λ s e. entry_of s.seen.now.entries e.0 ≡ None };
 
-fn required_capacity(alloc: Global, value: Option<&Value>) -> Result<Res4, FileRefusal>
-    ensures { Gives (λ r. r) result (required capacity_at (option_map (λ v. view v.now) value.entry)) }
-{
-    match value {
-        Some(value) => read_capacity(alloc, value),
-        None => Err(wrong_shape(alloc)),
-    }
-}
-
-#[tactic(auto, using(crate::proofs::Fails::fails_under))]
-fn capacity_in(alloc: Global, object: &Value) -> Result<Res4, FileRefusal>
-    ensures { Gives (λ r. r) result (inside (codes "capacity") (required capacity_at) (view object.now)) }
-{
-    match required_capacity(alloc, object.get("capacity")) {
-        Ok(cap) => Ok(cap),
-        Err(e) => Err(in_member(alloc, "capacity", e)),
-    }
-}
-
-fn optional_note(alloc: Global, value: Option<&Value>) -> Result<(), FileRefusal>
-    ensures { Gives (λ u. u) result (optional tt note_at (option_map (λ v. view v.now) value.entry)) }
-{
-    match value {
-        Some(value) => check_note(alloc, value),
-        None => Ok(()),
-    }
-}
-
-#[tactic(auto, using(crate::proofs::Fails::fails_under))]
-fn doc_in(alloc: Global, object: &Value) -> Result<(), FileRefusal>
-    ensures { Gives (λ u. u) result (inside (codes "doc") (optional tt note_at) (view object.now)) }
-{
-    match optional_note(alloc, object.get("doc")) {
-        Ok(()) => Ok(()),
-        Err(e) => Err(in_member(alloc, "doc", e)),
-    }
-}
-
-#[tactic(auto, unfolding(crate::specs::Capacities::entry_at))]
-fn read_entry(alloc: Global, seen: &Entries, value: &Value) -> Result<(Owner, Res4), FileRefusal>
-    ensures means { Gives (λ e. e) result (entry_at seen.now.entries (view value.now)) }
-    ensures fresh { IfOk result (λ e. entry_of seen.now.entries e.0 ≡ None) }
-{
-    check_object(alloc, value)?;
-    let owner = owner_in(alloc, seen, value)?;
-    let cap = capacity_in(alloc, value)?;
-    doc_in(alloc, value)?;
-    Ok((owner, cap))
-}
-
-#[tactic(auto, using(crate::proofs::Fails::fails_under))]
-fn entry_item(
-    alloc: Global,
-    index: usize,
-    seen: &Entries,
-    value: &Value,
-) -> Result<(Owner, Res4), FileRefusal>
-    ensures means { Gives (λ e. e) result (under (index_step index) (entry_at seen.now.entries (view value.now))) }
-    ensures fresh { IfOk result (λ e. entry_of seen.now.entries e.0 ≡ None) }
-{
-    match read_entry(alloc, seen, value) {
-        Ok(entry) => Ok(entry),
-        Err(e) => Err(in_item(alloc, index, e)),
+    #[tactic(auto, unfolding(crate::specs::Capacities::entry_at))]
+    fn read(&self, alloc: Global, value: &Value) -> Result<(Owner, Res4), FileRefusal> {
+        check_object(alloc, value)?;
+        let owner = required(alloc, value, "brokerId", &OwnerText { seen: self.seen })?;
+        let cap = required(alloc, value, "capacity", &CapacityObject)?;
+        optional(alloc, value, "doc", &Note, ())?;
+        Ok((owner, cap))
     }
 }
 
@@ -259,14 +198,15 @@ fn entry_items(alloc: Global, values: &[Value]) -> Result<Entries, FileRefusal>
 {
     let mut entries = IndexMap::new(alloc);
     for (index, value) in values.iter().enumerate() {
-        let (owner, cap) = entry_item(alloc, index, &entries, value)?;
+        let (owner, cap) = item(alloc, index, value, &EntryObject { seen: &entries })?;
         push_entry(&mut entries, owner, cap)?;
     }
     Ok(entries)
 }
 
 fn read_entries(alloc: Global, value: Option<&Value>) -> Result<Option<Entries>, FileRefusal>
-    ensures { Gives entries_seen result (optional None entries_at (option_map (λ v. view v.now) value.entry)) }
+    ensures { Gives entries_seen result
+        (optional None entries_at (option_map (λ v. view v.now) value.entry)) }
 {
     let Some(value) = value else {
         return Ok(None);
@@ -279,7 +219,8 @@ fn read_entries(alloc: Global, value: Option<&Value>) -> Result<Option<Entries>,
 /// The member `brokerCapacities`.
 #[tactic(auto, using(crate::proofs::Fails::fails_under))]
 pub fn entries_in(alloc: Global, object: &Value) -> Result<Option<Entries>, FileRefusal>
-    ensures { Gives entries_seen result (inside (codes "brokerCapacities") (optional None entries_at) (view object.now)) }
+    ensures { Gives entries_seen result
+        (inside (codes "brokerCapacities") (optional None entries_at) (view object.now)) }
 {
     match read_entries(alloc, object.get("brokerCapacities")) {
         Ok(entries) => Ok(entries),

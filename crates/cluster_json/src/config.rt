@@ -1,16 +1,14 @@
 // The configuration of a file.
 ghost use Rattle.std.specs.Prelude.{◌≡◌, ◌≤◌, codes, map, option_map, IfOk};
-ghost use Rattle.plan_terms.specs.Fraction.{Fraction};
 ghost use Rattle.serde_json.specs.View.{view, members_view};
-ghost use Rattle.cluster_json.specs.Config.{balance, balances_of, caps_of, checked, config_at, config_of, hundredths, limits_of, options_of, rules_of, settings_at, settings_of, share, valid_ratio_of};
+ghost use Rattle.cluster_json.specs.Config.{balances_of, caps_of, checked, config_at, config_of, limits_of, options_of, rules_of, settings_at, settings_of, valid_ratio_of};
 ghost use Rattle.cluster_json.specs.Ranges.{AreCaps, AreRules, IsShare};
 ghost use Rattle.cluster_json.specs.Reading.{Gives};
-ghost use Rattle.cluster_json.specs.Settings.{whole_setting};
 ghost use Rattle.cluster_json.specs.Shapes.{inside};
 
 use crate::FileRefusal;
 use crate::refusal::{in_member, wrong_shape};
-use crate::settings::{RatioForm, is_setting, ratio_setting, whole_setting};
+use crate::settings::{is_setting, ratio_setting, whole_setting};
 use plan_terms::{Caps, Memory, MinLeadersList, Options, Ratio, WindowRules};
 use serde_json::{Map, Value};
 use std::alloc::Global;
@@ -25,96 +23,59 @@ pub struct Config {
     pub ratio: Ratio,
 }
 
-fn hundredths(number: u32) -> Ratio
-    requires { number ≤ 1000 }
-    ensures { result ≡ hundredths number }
-{
-    Ratio::new(number, 100).unwrap()
-}
-
-fn share(alloc: Global, config: Option<&Value>, name: &str) -> Result<Ratio, Memory>
-    ensures { IfOk result (λ r. r ≡ share name.now (option_map (λ v. view v.now) config.entry)) }
-{
-    ratio_setting(alloc, config, name, RatioForm::Any, hundredths(80))
-}
-
-fn balance(alloc: Global, config: Option<&Value>, name: &str, default: u32) -> Result<Ratio, Memory>
-    requires from_one { 100 ≤ default }
-    requires small { default ≤ 1000 }
-    ensures { IfOk result (λ r. r ≡ balance name.now default (option_map (λ v. view v.now) config.entry)) }
-{
-    ratio_setting(alloc, config, name, RatioForm::FromOne, hundredths(default))
-}
-
+#[tactic(auto, unfolding(crate::specs::Settings::ratio_named))]
 fn limits_of(alloc: Global, config: Option<&Value>) -> Result<[Ratio; 4], Memory>
     ensures { IfOk result (λ r. r ≡ limits_of (option_map (λ v. view v.now) config.entry)) }
 {
     Ok([
-        share(alloc, config, "cpu.capacity.threshold")?,
-        share(alloc, config, "network.inbound.capacity.threshold")?,
-        share(alloc, config, "network.outbound.capacity.threshold")?,
-        share(alloc, config, "disk.capacity.threshold")?,
+        ratio_setting(alloc, config, "cpu.capacity.threshold")?,
+        ratio_setting(alloc, config, "network.inbound.capacity.threshold")?,
+        ratio_setting(alloc, config, "network.outbound.capacity.threshold")?,
+        ratio_setting(alloc, config, "disk.capacity.threshold")?,
     ])
 }
 
+#[tactic(auto, unfolding(crate::specs::Settings::ratio_named))]
 fn balances_of(alloc: Global, config: Option<&Value>) -> Result<[Ratio; 4], Memory>
     ensures { IfOk result (λ r. r ≡ balances_of (option_map (λ v. view v.now) config.entry)) }
 {
     Ok([
-        balance(alloc, config, "cpu.balance.threshold", 110)?,
-        balance(alloc, config, "network.inbound.balance.threshold", 110)?,
-        balance(alloc, config, "network.outbound.balance.threshold", 110)?,
-        balance(alloc, config, "disk.balance.threshold", 110)?,
+        ratio_setting(alloc, config, "cpu.balance.threshold")?,
+        ratio_setting(alloc, config, "network.inbound.balance.threshold")?,
+        ratio_setting(alloc, config, "network.outbound.balance.threshold")?,
+        ratio_setting(alloc, config, "disk.balance.threshold")?,
     ])
 }
 
-#[tactic(auto, unfolding(crate::specs::Config::options_of))]
+#[tactic(auto, unfolding(crate::specs::Config::options_of, crate::specs::Settings::ratio_named, crate::specs::Settings::whole_named))]
 fn options_of(alloc: Global, config: Option<&Value>) -> Result<Options, Memory>
     ensures { IfOk result (λ o. o ≡ options_of (option_map (λ v. view v.now) config.entry)) }
 {
-    let most = whole_setting(
-        alloc,
-        config,
-        "max.replicas.per.broker",
-        0,
-        1_000_000,
-        10_000,
-    )?;
+    let most = whole_setting(alloc, config, "max.replicas.per.broker")?;
     Ok(Options {
         limit: limits_of(alloc, config)?,
         balance: balances_of(alloc, config)?,
-        replica_balance: balance(alloc, config, "replica.count.balance.threshold", 110)?,
-        leader_balance: balance(alloc, config, "leader.replica.count.balance.threshold", 110)?,
-        topic_balance: balance(alloc, config, "topic.replica.count.balance.threshold", 300)?,
+        replica_balance: ratio_setting(alloc, config, "replica.count.balance.threshold")?,
+        leader_balance: ratio_setting(alloc, config, "leader.replica.count.balance.threshold")?,
+        topic_balance: ratio_setting(alloc, config, "topic.replica.count.balance.threshold")?,
         max_replicas: most as u32,
         leads_only: false,
         min_leaders: MinLeadersList::new(Vec::new(alloc)),
     })
 }
 
-fn cap(alloc: Global, config: Option<&Value>, name: &str, default: u64) -> Result<u32, Memory>
-    requires some { 1 ≤ default }
-    requires few { default ≤ 10000 }
-    ensures value { IfOk result (λ n. n ≡ whole_setting 1 10000 name.now default (option_map (λ v. view v.now) config.entry)) }
-    ensures some { IfOk result (λ n. 1 ≤ n) }
-    ensures few { IfOk result (λ n. n ≤ 10000) }
-{
-    Ok(whole_setting(alloc, config, name, 1, 10_000, default)? as u32)
-}
-
-#[tactic(auto, unfolding(crate::specs::Config::caps_of))]
+#[tactic(auto, unfolding(crate::specs::Config::caps_of, crate::specs::Settings::whole_named))]
 fn caps_of(alloc: Global, config: Option<&Value>) -> Result<Caps, Memory>
     ensures value { IfOk result (λ caps. caps ≡ caps_of (option_map (λ v. view v.now) config.entry)) }
     ensures caps { IfOk result AreCaps }
 {
-    let broker = cap(
+    let broker = whole_setting(
         alloc,
         config,
         "num.concurrent.partition.movements.per.broker",
-        10,
-    )?;
-    let cluster = cap(alloc, config, "max.num.cluster.movements", 1250)?;
-    let leader = cap(alloc, config, "num.concurrent.leader.movements", 1000)?;
+    )? as u32;
+    let cluster = whole_setting(alloc, config, "max.num.cluster.movements")? as u32;
+    let leader = whole_setting(alloc, config, "num.concurrent.leader.movements")? as u32;
     Ok(Caps {
         broker,
         cluster,
@@ -122,29 +83,16 @@ fn caps_of(alloc: Global, config: Option<&Value>) -> Result<Caps, Memory>
     })
 }
 
-#[tactic(auto, unfolding(crate::specs::Config::rules_of))]
+#[tactic(auto, unfolding(crate::specs::Config::rules_of, crate::specs::Settings::whole_named))]
 fn rules_of(alloc: Global, config: Option<&Value>) -> Result<WindowRules, Memory>
-    ensures value { IfOk result (λ rules. rules ≡ rules_of (option_map (λ v. view v.now) config.entry)) }
+    ensures value { IfOk result
+        (λ rules. rules ≡ rules_of (option_map (λ v. view v.now) config.entry)) }
     ensures rules { IfOk result AreRules }
 {
-    let width = whole_setting(
-        alloc,
-        config,
-        "partition.metrics.window.ms",
-        1,
-        86_400_000,
-        300_000,
-    )?;
-    let keep = whole_setting(alloc, config, "num.partition.metrics.windows", 1, 100, 5)?;
-    let least = whole_setting(
-        alloc,
-        config,
-        "min.samples.per.partition.metrics.window",
-        1,
-        65_536,
-        1,
-    )?;
-    let need = whole_setting(alloc, config, "min.valid.windows", 1, 100, 1)?;
+    let width = whole_setting(alloc, config, "partition.metrics.window.ms")?;
+    let keep = whole_setting(alloc, config, "num.partition.metrics.windows")?;
+    let least = whole_setting(alloc, config, "min.samples.per.partition.metrics.window")?;
+    let need = whole_setting(alloc, config, "min.valid.windows")?;
     Ok(WindowRules {
         width,
         keep,
@@ -153,18 +101,13 @@ fn rules_of(alloc: Global, config: Option<&Value>) -> Result<WindowRules, Memory
     })
 }
 
-#[tactic(auto, unfolding(crate::specs::Config::valid_ratio_of))]
+#[tactic(auto, unfolding(crate::specs::Config::valid_ratio_of, crate::specs::Settings::ratio_named))]
 fn valid_ratio_of(alloc: Global, config: Option<&Value>) -> Result<Ratio, Memory>
-    ensures value { IfOk result (λ r. r ≡ valid_ratio_of (option_map (λ v. view v.now) config.entry)) }
+    ensures value { IfOk result
+        (λ r. r ≡ valid_ratio_of (option_map (λ v. view v.now) config.entry)) }
     ensures share { IfOk result IsShare }
 {
-    ratio_setting(
-        alloc,
-        config,
-        "min.valid.partition.ratio",
-        RatioForm::ToOne,
-        hundredths(95),
-    )
+    ratio_setting(alloc, config, "min.valid.partition.ratio")
 }
 
 #[tactic(auto, unfolding(crate::specs::Config::config_of))]

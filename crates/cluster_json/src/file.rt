@@ -1,26 +1,29 @@
 // A whole cluster file.
-ghost use Rattle.std.specs.Prelude.{◌≡◌, ◌≤◌, [], codes, map, option_map, length, slice_index, IfOk};
+ghost use Rattle.std.specs.Prelude.{◌≡◌, map, length, slice_index, IfOk};
 ghost use Rattle.std.specs.List.{All};
 ghost use Rattle.plan_terms.specs.Belongs.{Belongs};
 ghost use Rattle.plan_terms.specs.Faults.{cluster_fault, lists_fault};
 ghost use Rattle.serde_json.specs.View.{view};
-ghost use Rattle.cluster_json.specs.File.{cluster_at, file_at, known_version, meaning_of, members_at, options_with, unless, version_at};
+ghost use Rattle.cluster_json.specs.File.{cluster_at, file_at, meaning_of, members_at, options_with, unless, version_at};
 ghost use Rattle.cluster_json.specs.Ranges.{AreCaps, AreLoads, AreRules, IsFile, IsSample, IsShare};
 ghost use Rattle.cluster_json.specs.Reading.{Gives};
-ghost use Rattle.cluster_json.specs.Shapes.{inside, required};
-ghost use Rattle.cluster_json.specs.Views.{file_seen, members_seen, sample_seen};
+ghost use Rattle.cluster_json.specs.Views.{file_seen, members_seen};
+ghost use Rattle.plan_terms.specs.Resources.{NW_OUT};
 
 use crate::FileRefusal;
-use crate::brokers::brokers_in;
+use crate::brokers::BrokerObject;
 use crate::capacities::{all_equipped, entries_in};
 use crate::config::{Config, config_in};
 use crate::leaders::min_leaders_in;
-use crate::partitions::{FilePart, parts_in};
-use crate::refusal::{in_member, wrong_shape};
+use crate::partitions::{FilePart, PartObject};
+use crate::refusal::wrong_shape;
 use crate::samples::{Placed, narrowed, samples_in};
-use crate::shape::check_object;
-use load_model::{Assign, Case, CaseFault};
-use plan_terms::{Broker, Caps, Memory, MinLeadersList, Options, Part, Ratio, Sample, WindowRules};
+use crate::shape::{Each, Shape, check_object, required};
+use load_model::{Assign, Case};
+use plan_terms::{
+    Broker, Caps, CaseFault, ListOf, Memory, MinLeadersList, Options, Part, Ratio, Sample,
+    WindowRules,
+};
 use serde_json::Value;
 use std::alloc::Global;
 
@@ -45,9 +48,9 @@ pub struct ClusterFile {
 #[derive(Drop)]
 pub struct FileMembers {
     pub brokers: Vec<Broker>,
-    pub parts: Vec<FilePart>,
+    pub parts: ListOf<FilePart>,
     pub config: Config,
-    pub samples: Vec<Placed>,
+    pub samples: ListOf<Placed>,
     pub min_leaders: MinLeadersList,
 }
 
@@ -59,49 +62,43 @@ pub struct Columns {
     pub with_load: Vec<bool>,
 }
 
-#[tactic(auto, unfolding(crate::specs::File::version_at))]
-fn read_version(alloc: Global, value: Option<&Value>) -> Result<u64, FileRefusal>
-    ensures { Gives (λ n. n) result (required version_at (option_map (λ v. view v.now) value.entry)) }
-{
-    let Some(value) = value else {
-        return Err(wrong_shape(alloc));
-    };
-    let Some(number) = value.as_number() else {
-        return Err(wrong_shape(alloc));
-    };
-    match number.as_u64() {
-        Some(version) if version == 1 || version == 2 => Ok(version),
-        _ => Err(FileRefusal::UnsupportedVersion),
-    }
-}
+/// The version of a file, which is 1 or 2.
+struct Version;
 
-#[tactic(auto, using(crate::proofs::Fails::fails_under))]
-fn version_in(alloc: Global, object: &Value) -> Result<u64, FileRefusal>
-    ensures { Gives (λ n. n) result (inside (codes "version") (required version_at) (view object.now)) }
-{
-    match read_version(alloc, object.get("version")) {
-        Ok(version) => Ok(version),
-        Err(e) => Err(in_member(alloc, "version", e)),
+impl Shape for Version {
+    type Out = u64;
+
+    ghost meaning = { λ _. version_at };
+
+    #[tactic(auto, unfolding(crate::specs::File::version_at))]
+    fn read(&self, alloc: Global, value: &Value) -> Result<u64, FileRefusal> {
+        let Some(number) = value.as_number() else {
+            return Err(wrong_shape(alloc));
+        };
+        match number.as_u64() {
+            Some(version) if version == 1 || version == 2 => Ok(version),
+            _ => Err(FileRefusal::UnsupportedVersion),
+        }
     }
 }
 
 #[tactic(auto, unfolding(crate::specs::File::members_at))]
 fn read_members(alloc: Global, value: &Value) -> Result<FileMembers, FileRefusal>
     ensures means { Gives members_seen result (members_at (view value.now)) }
-    ensures loads { IfOk result (λ m. All (λ p. AreLoads p.part.loads) m.parts.items) }
+    ensures loads { IfOk result (λ m. All (λ p. AreLoads p.part.loads) m.parts) }
     ensures caps { IfOk result (λ m. AreCaps m.config.caps) }
     ensures rules { IfOk result (λ m. AreRules m.config.rules) }
     ensures share { IfOk result (λ m. IsShare m.config.ratio) }
-    ensures samples { IfOk result (λ m. All (λ s. IsSample (length m.parts.items) (sample_seen s)) m.samples.items) }
+    ensures samples { IfOk result (λ m. All (IsSample (length m.parts)) m.samples) }
 {
     check_object(alloc, value)?;
-    let version = version_in(alloc, value)?;
-    let named = brokers_in(alloc, value)?;
+    let version = required(alloc, value, "version", &Version)?;
+    let named = required(alloc, value, "brokers", &Each(BrokerObject))?;
     let entries = entries_in(alloc, value)?;
-    let brokers = all_equipped(alloc, &entries, named)?;
-    let parts = parts_in(alloc, value)?;
+    let brokers = all_equipped(alloc, &entries, named.into_vec())?;
+    let parts = required(alloc, value, "partitions", &Each(PartObject))?;
     let config = config_in(alloc, value)?;
-    let samples = samples_in(alloc, &parts, value)?;
+    let samples = samples_in(alloc, parts.as_slice(), value)?;
     let min_leaders = min_leaders_in(alloc, version, value)?;
     Ok(FileMembers {
         brokers,
@@ -112,16 +109,17 @@ fn read_members(alloc: Global, value: &Value) -> Result<FileMembers, FileRefusal
     })
 }
 
-fn split(alloc: Global, file_parts: Vec<FilePart>) -> Result<Columns, Memory>
-    ensures parts { IfOk result (λ c. c.parts.items ≡ map (λ p. p.part) file_parts.items) }
-    ensures lists { IfOk result (λ c. map (λ list. list.items) c.lists.items ≡ map (λ p. p.replicas) file_parts.items) }
-    ensures with_load { IfOk result (λ c. c.with_load.items ≡ map (λ p. p.with_load) file_parts.items) }
+fn split(alloc: Global, file_parts: ListOf<FilePart>) -> Result<Columns, Memory>
+    ensures parts { IfOk result (λ c. c.parts.items ≡ map (λ p. p.part) file_parts) }
+    ensures lists { IfOk result
+        (λ c. map (λ list. list.items) c.lists.items ≡ map (λ p. p.replicas) file_parts) }
+    ensures with_load { IfOk result (λ c. c.with_load.items ≡ map (λ p. p.with_load) file_parts) }
     ensures one_each { IfOk result (λ c. length c.lists.items ≡ length c.parts.items) }
 {
     let mut parts = Vec::new(alloc);
     let mut lists = Vec::new(alloc);
     let mut with_load = Vec::new(alloc);
-    for file_part in file_parts {
+    for file_part in file_parts.into_vec() {
         parts.push(file_part.part)?;
         lists.push(file_part.replicas.into_vec())?;
         with_load.push(file_part.with_load)?;
@@ -148,9 +146,11 @@ fn case_of(
     parts: Vec<Part>,
     options: Options,
 ) -> Result<Case, FileRefusal>
-    requires { All (λ p. slice_index p.loads.follow 2 ≡ 0) parts.items }
-    ensures means { Gives (λ c. tt) result (unless (cluster_fault brokers.items parts.items options)) }
-    ensures case { IfOk result (λ c. c ≡ record { brokers = brokers.items; parts = parts.items; options = options }) }
+    requires { All (λ p. slice_index p.loads.follow NW_OUT ≡ 0) parts.items }
+    ensures means { Gives (λ c. tt) result
+        (unless (cluster_fault brokers.items parts.items options)) }
+    ensures case { IfOk result
+        (λ c. c ≡ record { brokers = brokers.items; parts = parts.items; options = options }) }
 {
     match Case::new(alloc, brokers, parts, options) {
         Ok(case) => Ok(case),
@@ -162,7 +162,8 @@ fn case_of(
 // The assignment of a file's lists.
 fn assignment_of(alloc: Global, case: &Case, lists: Vec<Vec<u32>>) -> Result<Assign, FileRefusal>
     requires { length lists.items ≡ length case.now.parts }
-    ensures means { Gives (λ a. tt) result (unless (lists_fault case.now (map (λ list. list.items) lists.items))) }
+    ensures means { Gives (λ a. tt) result
+        (unless (lists_fault case.now (map (λ list. list.items) lists.items))) }
     ensures lists { IfOk result (λ a. a ≡ map (λ list. list.items) lists.items) }
     ensures belongs { IfOk result (Belongs case.now) }
 {
@@ -176,11 +177,11 @@ fn assignment_of(alloc: Global, case: &Case, lists: Vec<Vec<u32>>) -> Result<Ass
 // The file that the members make.
 #[tactic(auto, unfolding(crate::specs::File::cluster_at))]
 fn load(alloc: Global, members: FileMembers) -> Result<ClusterFile, FileRefusal>
-    requires loads { All (λ p. AreLoads p.part.loads) members.parts.items }
+    requires loads { All (λ p. AreLoads p.part.loads) members.parts }
     requires caps { AreCaps members.config.caps }
     requires rules { AreRules members.config.rules }
     requires share { IsShare members.config.ratio }
-    requires samples { All (λ s. IsSample (length members.parts.items) (sample_seen s)) members.samples.items }
+    requires samples { All (IsSample (length members.parts)) members.samples }
     ensures means { Gives file_seen result (cluster_at (members_seen members)) }
     ensures file { IfOk result IsFile }
 {
@@ -201,7 +202,7 @@ fn load(alloc: Global, members: FileMembers) -> Result<ClusterFile, FileRefusal>
     let options = options_with(options, min_leaders);
     let case = case_of(alloc, brokers, columns.parts, options)?;
     let lists = assignment_of(alloc, &case, columns.lists)?;
-    let samples = narrowed(alloc, case.parts().len(), samples)?;
+    let samples = narrowed(alloc, case.parts().len(), &samples)?;
     Ok(ClusterFile {
         case,
         lists,

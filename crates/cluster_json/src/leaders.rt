@@ -11,7 +11,7 @@ ghost use Rattle.cluster_json.specs.Views.{entry_seen, texts_seen};
 use crate::FileRefusal;
 use crate::partitions::topic_name;
 use crate::refusal::{in_item, in_member, wrong_shape};
-use crate::shape::{check_object, number_in, read_list};
+use crate::shape::{Shape, Whole, check_object, optional, read_list, required};
 use indexmap::IndexSet;
 use plan_terms::{Memory, MinLeaders, MinLeadersList, Topic};
 use serde_json::Value;
@@ -27,6 +27,11 @@ pub struct Entry<'v> {
     pub leaders: u32,
 }
 
+const LEADERS: Whole = Whole {
+    least: 1,
+    limit: 10_001,
+};
+
 // Whether no entry so far names the topic.
 fn is_new(seen: &Seen<'_>, topic: &str) -> bool
     ensures { result ≡ not (list_any (bytes_eq topic.now) (texts_seen seen.now.keys)) }
@@ -39,7 +44,9 @@ fn read_topic<'v>(
     seen: &Seen<'_>,
     value: Option<&'v Value>,
 ) -> Result<&'v str, FileRefusal>
-    ensures means { Gives (λ s. s.now) result (required (new_topic_at (texts_seen seen.now.keys)) (option_map (λ v. view v.now) value.entry)) }
+    ensures means { Gives (λ s. s.now) result
+        (required (new_topic_at (texts_seen seen.now.keys))
+        (option_map (λ v. view v.now) value.entry)) }
     ensures new { IfOk result (λ s. list_any (bytes_eq s.now) (texts_seen seen.now.keys) ≡ false) }
 {
     let Some(value) = value else {
@@ -55,7 +62,9 @@ fn read_topic<'v>(
 
 #[tactic(auto, using(crate::proofs::Fails::fails_under))]
 fn topic_in<'v>(alloc: Global, seen: &Seen<'_>, object: &'v Value) -> Result<&'v str, FileRefusal>
-    ensures means { Gives (λ s. s.now) result (inside (codes "topic") (required (new_topic_at (texts_seen seen.now.keys))) (view object.now)) }
+    ensures means { Gives (λ s. s.now) result
+        (inside (codes "topic") (required (new_topic_at (texts_seen seen.now.keys)))
+        (view object.now)) }
     ensures new { IfOk result (λ s. list_any (bytes_eq s.now) (texts_seen seen.now.keys) ≡ false) }
 {
     match read_topic(alloc, seen, object.get("topic")) {
@@ -71,11 +80,12 @@ fn read_entry<'v>(
     value: &'v Value,
 ) -> Result<Entry<'v>, FileRefusal>
     ensures means { Gives entry_seen result (leaders_at (texts_seen seen.now.keys) (view value.now)) }
-    ensures new { IfOk result (λ e. list_any (bytes_eq e.topic.now) (texts_seen seen.now.keys) ≡ false) }
+    ensures new { IfOk result
+        (λ e. list_any (bytes_eq e.topic.now) (texts_seen seen.now.keys) ≡ false) }
 {
     check_object(alloc, value)?;
     let topic = topic_in(alloc, seen, value)?;
-    let leaders = number_in(alloc, value, "leaders", 1, 10_001)? as u32;
+    let leaders = required(alloc, value, "leaders", &LEADERS)? as u32;
     Ok(Entry { topic, leaders })
 }
 
@@ -86,8 +96,10 @@ fn entry_item<'v>(
     index: usize,
     value: &'v Value,
 ) -> Result<Entry<'v>, FileRefusal>
-    ensures means { Gives entry_seen result (under (index_step index) (leaders_at (texts_seen seen.now.keys) (view value.now))) }
-    ensures new { IfOk result (λ e. list_any (bytes_eq e.topic.now) (texts_seen seen.now.keys) ≡ false) }
+    ensures means { Gives entry_seen result
+        (under (index_step index) (leaders_at (texts_seen seen.now.keys) (view value.now))) }
+    ensures new { IfOk result
+        (λ e. list_any (bytes_eq e.topic.now) (texts_seen seen.now.keys) ≡ false) }
 {
     match read_entry(alloc, seen, value) {
         Ok(entry) => Ok(entry),
@@ -98,7 +110,8 @@ fn entry_item<'v>(
 // Notes a topic that no entry so far names.
 fn note<'v>(seen: &mut Seen<'v>, topic: &'v str) -> Result<(), Memory>
     requires { list_any (bytes_eq topic.now) (texts_seen seen.old.keys) ≡ false }
-    ensures { OnOk result (texts_seen seen.new.keys ≡ texts_seen seen.old.keys ++ topic.entry.now ∷ []) }
+    ensures { OnOk result
+        (texts_seen seen.new.keys ≡ texts_seen seen.old.keys ++ topic.entry.now ∷ []) }
 {
     let _is_new = seen.insert(topic)?;
     Ok(())
@@ -126,29 +139,21 @@ fn entry_items(alloc: Global, values: &[Value]) -> Result<Vec<MinLeaders>, FileR
     Ok(entries)
 }
 
-fn read_entries(alloc: Global, value: Option<&Value>) -> Result<Vec<MinLeaders>, FileRefusal>
-    ensures { Gives (λ v. v.items) result (optional [] all_leaders_at (option_map (λ v. view v.now) value.entry)) }
-{
-    let Some(value) = value else {
-        return Ok(Vec::new(alloc));
-    };
-    match read_list(alloc, value) {
-        Ok(values) => entry_items(alloc, values),
-        Err(e) => Err(e),
+/// The member `minTopicLeaders`.
+struct LeadersList;
+
+impl Shape for LeadersList {
+    type Out = MinLeadersList;
+
+    ghost meaning = { λ _. all_leaders_at };
+
+    fn read(&self, alloc: Global, value: &Value) -> Result<MinLeadersList, FileRefusal> {
+        let values = read_list(alloc, value)?;
+        Ok(MinLeadersList::new(entry_items(alloc, values)?))
     }
 }
 
-#[tactic(auto, using(crate::proofs::Fails::fails_under))]
-fn entries_in(alloc: Global, object: &Value) -> Result<Vec<MinLeaders>, FileRefusal>
-    ensures { Gives (λ v. v.items) result (inside (codes "minTopicLeaders") (optional [] all_leaders_at) (view object.now)) }
-{
-    match read_entries(alloc, object.get("minTopicLeaders")) {
-        Ok(entries) => Ok(entries),
-        Err(e) => Err(in_member(alloc, "minTopicLeaders", e)),
-    }
-}
-
-/// The member `minTopicLeaders` of a file of version 2.
+/// The least leaders of a file of version 2.
 #[tactic(auto, unfolding(crate::specs::Leaders::min_leaders_at))]
 pub fn min_leaders_in(
     alloc: Global,
@@ -157,11 +162,10 @@ pub fn min_leaders_in(
 ) -> Result<MinLeadersList, FileRefusal>
     ensures { Gives (λ l. l) result (min_leaders_at version (view object.now)) }
 {
-    if version != 2 {
-        return Ok(MinLeadersList::new(Vec::new(alloc)));
-    }
-    match entries_in(alloc, object) {
-        Ok(entries) => Ok(MinLeadersList::new(entries)),
-        Err(e) => Err(e),
+    let none = MinLeadersList::new(Vec::new(alloc));
+    if version == 2 {
+        optional(alloc, object, "minTopicLeaders", &LeadersList, none)
+    } else {
+        Ok(none)
     }
 }

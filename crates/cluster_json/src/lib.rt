@@ -14,12 +14,8 @@ mod refusal;
 mod samples;
 mod settings;
 mod shape;
-mod text;
 
 pub use file::{ClusterFile, read_cluster};
 pub use named::{NamedSample, read_named_sample};
 pub use plan_terms::{Caps, Sample, WindowRules};
 pub use refusal::FileRefusal;
-
-#[cfg(test)]
-mod tests;

@@ -6,9 +6,10 @@ ghost use Rattle.cluster_json.specs.Reading.{Gives};
 ghost use Rattle.serde_json.specs.View.{view};
 
 use crate::FileRefusal;
-use crate::partitions::topic_in;
-use crate::samples::loads_in;
-use crate::shape::{check_object, number_in};
+use crate::loads::LoadsObject;
+use crate::partitions::TopicText;
+use crate::samples::TIME;
+use crate::shape::{Id, check_object, required};
 use plan_terms::{Loads, Measured, Topic};
 use serde_json::Value;
 use std::alloc::Global;
@@ -39,10 +40,10 @@ fn read_named(alloc: Global, value: &Value) -> Result<NamedSample, FileRefusal>
     ensures time { IfOk result (λ s. s.time < 2 ^ 53) }
 {
     check_object(alloc, value)?;
-    let topic = topic_in(alloc, value)?;
-    let number = number_in(alloc, value, "partition", 0, 1 << 31)? as u32;
-    let time = number_in(alloc, value, "time", 0, 1 << 53)?;
-    let loads = measured(loads_in(alloc, value)?);
+    let topic = required(alloc, value, "topic", &TopicText)?;
+    let number = required(alloc, value, "partition", &Id)?;
+    let time = required(alloc, value, "time", &TIME)?;
+    let loads = measured(required(alloc, value, "load", &LoadsObject)?);
     Ok(NamedSample {
         topic,
         number,

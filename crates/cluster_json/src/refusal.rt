@@ -5,41 +5,60 @@ ghost use Rattle.cluster_json.specs.Reading.{fault_of, IsDeeper};
 
 use plan_terms::{CaseFault, Memory};
 use std::alloc::{AllocError, AllocFailed, Global};
-use thiserror::Error;
+use std::error::Error;
+use std::fmt;
 
 /// Why bytes were not read as a cluster file: its first fault. A path is a JSON pointer (RFC 6901).
-#[derive(Debug, Drop, Error)]
+#[derive(Debug, Drop)]
 pub enum FileRefusal {
-    #[error("want of memory")]
+    /// Want of memory.
     Memory,
     /// The bytes are no JSON text.
-    #[error("NotJson")]
     NotJson,
     /// A member is absent that has to be there, or of another kind than it has to be.
-    #[error("WrongShape {0}")]
     WrongShape(String),
     /// A number isn't whole or is out of range, or a capacity has another form.
-    #[error("BadNumber {0}")]
     BadNumber(String),
     /// A text can't name a topic.
-    #[error("BadTopic {0}")]
     BadTopic(String),
     /// The broker of this id has no capacities, and there are none for all.
-    #[error("MissingCapacity {0}")]
     MissingCapacity(u32),
     /// There is no setting of this name, or its value has another form or is out of range.
-    #[error("BadConfig {0}")]
     BadConfig(String),
     /// The version isn't 1.
-    #[error("UnsupportedVersion")]
     UnsupportedVersion,
     /// A form that this program leaves out.
-    #[error("Unsupported {0}")]
     Unsupported(String),
     /// The brokers, partitions and lists make no cluster.
-    #[error("{0}")]
     Case(CaseFault),
 }
+
+/// The name of the fault and, behind a blank, its path, name or number.
+impl fmt::Display for FileRefusal {
+    ghost use Rattle.std.specs.Prelude.{option_map};
+    ghost use Rattle.cluster_json.specs.Reading.{fault_of};
+    ghost use Rattle.cluster_json.specs.Texts.{fault_text};
+
+    ghost output = { λ refusal. option_map fault_text (fault_of refusal) };
+
+    #[tactic(auto, unfolding(crate::specs::Texts::fault_text))]
+    fn fmt<W: fmt::Write>(&self, f: &mut fmt::Formatter<W>) -> fmt::Result {
+        match self {
+            FileRefusal::Memory => write!(f, "Memory"),
+            FileRefusal::NotJson => write!(f, "NotJson"),
+            FileRefusal::WrongShape(path) => write!(f, "WrongShape {path}"),
+            FileRefusal::BadNumber(path) => write!(f, "BadNumber {path}"),
+            FileRefusal::BadTopic(path) => write!(f, "BadTopic {path}"),
+            FileRefusal::MissingCapacity(broker) => write!(f, "MissingCapacity {broker}"),
+            FileRefusal::BadConfig(name) => write!(f, "BadConfig {name}"),
+            FileRefusal::UnsupportedVersion => write!(f, "UnsupportedVersion"),
+            FileRefusal::Unsupported(path) => write!(f, "Unsupported {path}"),
+            FileRefusal::Case(fault) => write!(f, "{fault}"),
+        }
+    }
+}
+
+impl Error for FileRefusal {}
 
 impl From<AllocError> for FileRefusal {
     ghost use Rattle.cluster_json.specs.declared.refusal.FileRefusal.TheVariants as refusal;

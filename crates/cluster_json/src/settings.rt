@@ -1,8 +1,7 @@
 // The settings of a file, by Cruise Control's names.
-ghost use Rattle.std.specs.Prelude.{◌≡◌, ◌≤◌, true, bytes_eq, option_map, string_bytes, IfOk, IfSome};
-ghost use Rattle.std.specs.List.{list_any};
+ghost use Rattle.std.specs.Prelude.{◌≡◌, ◌≤◌, true, option_map, string_bytes, IfOk, IfSome, Some};
 ghost use Rattle.serde_json.specs.View.{view};
-ghost use Rattle.cluster_json.specs.Settings.{among, balance_thresholds, capacity_thresholds, fits_form, form_of, has_form, is_setting, passes, range_of, ratio_in, ratio_setting, setting_text, such_that, told, whole_setting, whole_within};
+ghost use Rattle.cluster_json.specs.Settings.{IsRatioOf, IsRatioSetting, IsWholeOf, IsWholeSetting, hundredths, is_setting, passes, ratio_by, ratio_in, ratio_named, ratio_setting, setting_text, takes_ratio, takes_whole, told, whole_by, whole_named, whole_setting, whole_within};
 
 use plan_terms::{Memory, Ratio, read_whole};
 use serde_json::Value;
@@ -18,89 +17,76 @@ pub enum RatioForm {
     ToOne,
 }
 
-/// The form of a setting's text.
+/// A setting that is a ratio.
 #[derive(Clone, Copy, Debug)]
-pub enum Form {
-    InRatio(RatioForm),
-    /// A whole number from the one to the other.
-    Whole(u64, u64),
+pub struct RatioSetting {
+    form: RatioForm,
+    /// In hundredths.
+    default: u32,
 }
 
-const CAPACITY_THRESHOLDS: [&str; 4] = [
-    "cpu.capacity.threshold",
-    "network.inbound.capacity.threshold",
-    "network.outbound.capacity.threshold",
-    "disk.capacity.threshold",
-];
-
-const BALANCE_THRESHOLDS: [&str; 7] = [
-    "cpu.balance.threshold",
-    "network.inbound.balance.threshold",
-    "network.outbound.balance.threshold",
-    "disk.balance.threshold",
-    "replica.count.balance.threshold",
-    "leader.replica.count.balance.threshold",
-    "topic.replica.count.balance.threshold",
-];
-
-fn among(names: &[&str], name: &str) -> bool
-    ensures { result ≡ list_any (λ n. bytes_eq name.now n.now) names.now }
-{
-    names.iter().any(|n| name == *n)
+/// A setting that is a whole number.
+#[derive(Clone, Copy, Debug)]
+pub struct WholeSetting {
+    least: u64,
+    most: u64,
+    default: u64,
 }
 
-fn is_capacity_threshold(name: &str) -> bool
-    ensures { result ≡ among capacity_thresholds name.now }
+fn ratio(form: RatioForm, default: u32) -> RatioSetting
+    ensures { result ≡ record { form = form; default = default } }
 {
-    among(&CAPACITY_THRESHOLDS, name)
+    RatioSetting { form, default }
 }
 
-fn is_balance_threshold(name: &str) -> bool
-    ensures { result ≡ among balance_thresholds name.now }
+fn whole(least: u64, most: u64, default: u64) -> WholeSetting
+    ensures { result ≡ record { least = least; most = most; default = default } }
 {
-    among(&BALANCE_THRESHOLDS, name)
-}
-
-// The range of a setting that is a whole number.
-#[tactic(auto, unfolding(crate::specs::Settings::range_of))]
-fn range_of(name: &str) -> Option<Form>
-    ensures { result ≡ range_of name.now }
-{
-    if name == "max.replicas.per.broker" {
-        Some(Form::Whole(0, 1_000_000))
-    } else if name == "num.concurrent.partition.movements.per.broker" {
-        Some(Form::Whole(1, 10_000))
-    } else if name == "max.num.cluster.movements" {
-        Some(Form::Whole(1, 10_000))
-    } else if name == "num.concurrent.leader.movements" {
-        Some(Form::Whole(1, 10_000))
-    } else if name == "partition.metrics.window.ms" {
-        Some(Form::Whole(1, 86_400_000))
-    } else if name == "num.partition.metrics.windows" {
-        Some(Form::Whole(1, 100))
-    } else if name == "min.samples.per.partition.metrics.window" {
-        Some(Form::Whole(1, 65_536))
-    } else if name == "min.valid.windows" {
-        Some(Form::Whole(1, 100))
-    } else {
-        None
+    WholeSetting {
+        least,
+        most,
+        default,
     }
 }
 
-// The form of the setting of this name, where there is one.
-#[tactic(auto, unfolding(crate::specs::Settings::form_of))]
-fn form_of(name: &str) -> Option<Form>
-    ensures { result ≡ form_of name.now }
+/// The ratio of this name, where there is one.
+#[tactic(auto, unfolding(crate::specs::Settings::ratio_named))]
+fn ratio_named(name: &str) -> Option<RatioSetting>
+    ensures { result ≡ ratio_named name.now }
 {
-    if is_capacity_threshold(name) {
-        Some(Form::InRatio(RatioForm::Any))
-    } else if is_balance_threshold(name) {
-        Some(Form::InRatio(RatioForm::FromOne))
-    } else if name == "min.valid.partition.ratio" {
-        Some(Form::InRatio(RatioForm::ToOne))
-    } else {
-        range_of(name)
-    }
+    Some(match name {
+        "cpu.capacity.threshold" => ratio(RatioForm::Any, 80),
+        "network.inbound.capacity.threshold" => ratio(RatioForm::Any, 80),
+        "network.outbound.capacity.threshold" => ratio(RatioForm::Any, 80),
+        "disk.capacity.threshold" => ratio(RatioForm::Any, 80),
+        "cpu.balance.threshold" => ratio(RatioForm::FromOne, 110),
+        "network.inbound.balance.threshold" => ratio(RatioForm::FromOne, 110),
+        "network.outbound.balance.threshold" => ratio(RatioForm::FromOne, 110),
+        "disk.balance.threshold" => ratio(RatioForm::FromOne, 110),
+        "replica.count.balance.threshold" => ratio(RatioForm::FromOne, 110),
+        "leader.replica.count.balance.threshold" => ratio(RatioForm::FromOne, 110),
+        "topic.replica.count.balance.threshold" => ratio(RatioForm::FromOne, 300),
+        "min.valid.partition.ratio" => ratio(RatioForm::ToOne, 95),
+        _ => return None,
+    })
+}
+
+/// The whole number of this name, where there is one.
+#[tactic(auto, unfolding(crate::specs::Settings::whole_named))]
+fn whole_named(name: &str) -> Option<WholeSetting>
+    ensures { result ≡ whole_named name.now }
+{
+    Some(match name {
+        "max.replicas.per.broker" => whole(0, 1_000_000, 10_000),
+        "num.concurrent.partition.movements.per.broker" => whole(1, 10_000, 10),
+        "max.num.cluster.movements" => whole(1, 10_000, 1250),
+        "num.concurrent.leader.movements" => whole(1, 10_000, 1000),
+        "partition.metrics.window.ms" => whole(1, 86_400_000, 300_000),
+        "num.partition.metrics.windows" => whole(1, 100, 5),
+        "min.samples.per.partition.metrics.window" => whole(1, 65_536, 1),
+        "min.valid.windows" => whole(1, 100, 1),
+        _ => return None,
+    })
 }
 
 // Whether the ratio has the form.
@@ -135,12 +121,21 @@ fn whole_within(least: u64, most: u64, text: &str) -> Option<u64>
     }
 }
 
-fn has_form(form: Form, text: &str) -> bool
-    ensures { result ≡ has_form form text.now }
+fn takes_ratio(setting: Option<RatioSetting>, text: &str) -> bool
+    ensures { result ≡ takes_ratio setting text.now }
 {
-    match form {
-        Form::InRatio(form) => read_ratio(form, text).is_some(),
-        Form::Whole(least, most) => whole_within(least, most, text).is_some(),
+    match setting {
+        Some(setting) => read_ratio(setting.form, text).is_some(),
+        None => false,
+    }
+}
+
+fn takes_whole(setting: Option<WholeSetting>, text: &str) -> bool
+    ensures { result ≡ takes_whole setting text.now }
+{
+    match setting {
+        Some(setting) => whole_within(setting.least, setting.most, text).is_some(),
+        None => false,
     }
 }
 
@@ -159,23 +154,25 @@ fn setting_text(alloc: Global, value: &Value) -> Result<Option<String>, Memory>
     }
 }
 
-/// Whether there is a setting of this name, and the value has its form.
+/// Whether there is a setting of this name, and it takes the value.
 #[tactic(auto, unfolding(crate::specs::Settings::is_setting))]
 pub fn is_setting(alloc: Global, name: &str, value: &Value) -> Result<bool, Memory>
     ensures { IfOk result (λ is. is ≡ is_setting name.now (view value.now)) }
 {
-    let Some(form) = form_of(name) else {
-        return Ok(false);
-    };
     match setting_text(alloc, value)? {
-        Some(text) => Ok(has_form(form, text.as_str())),
+        Some(text) => {
+            let text = text.as_str();
+            Ok(takes_ratio(ratio_named(name), text) || takes_whole(whole_named(name), text))
+        }
         None => Ok(false),
     }
 }
 
 // The text of the setting of this name, where the configuration has it.
 fn told(alloc: Global, config: Option<&Value>, name: &str) -> Result<Option<String>, Memory>
-    ensures { IfOk result (λ text. option_map string_bytes text ≡ told name.now (option_map (λ v. view v.now) config.entry)) }
+    ensures { IfOk result
+        (λ text. option_map string_bytes text
+        ≡ told name.now (option_map (λ v. view v.now) config.entry)) }
 {
     let Some(config) = config else {
         return Ok(None);
@@ -186,43 +183,63 @@ fn told(alloc: Global, config: Option<&Value>, name: &str) -> Result<Option<Stri
     }
 }
 
-/// What the setting of this name says, or the default where it is absent.
-#[tactic(auto, unfolding(crate::specs::Settings::ratio_setting))]
-pub fn ratio_setting(
-    alloc: Global,
-    config: Option<&Value>,
-    name: &str,
-    form: RatioForm,
-    default: Ratio,
-) -> Result<Ratio, Memory>
-    requires { passes form default ≡ true }
-    ensures value { IfOk result (λ r. r ≡ ratio_setting form name.now default (option_map (λ v. view v.now) config.entry)) }
-    ensures passes { IfOk result (λ r. passes form r ≡ true) }
+fn hundredths(number: u32) -> Ratio
+    requires { number ≤ 1000 }
+    ensures { result ≡ hundredths number }
 {
-    match told(alloc, config, name)? {
-        Some(text) => Ok(read_ratio(form, text.as_str()).unwrap_or(default)),
-        None => Ok(default),
+    Ratio::new(number, 100).unwrap()
+}
+
+fn ratio_of(setting: RatioSetting, text: Option<&str>) -> Ratio
+    requires { IsRatioSetting (Some setting) }
+    ensures value { result ≡ ratio_by (Some setting) (option_map (λ t. t.now) text.entry) }
+    ensures passes { passes setting.form result ≡ true }
+{
+    let default = hundredths(setting.default);
+    match text {
+        Some(text) => read_ratio(setting.form, text).unwrap_or(default),
+        None => default,
     }
 }
 
-/// What the setting of this name says, or the default where it is absent.
-#[tactic(auto, unfolding(crate::specs::Settings::whole_setting))]
-pub fn whole_setting(
-    alloc: Global,
-    config: Option<&Value>,
-    name: &str,
-    least: u64,
-    most: u64,
-    default: u64,
-) -> Result<u64, Memory>
-    requires least { least ≤ default }
-    requires most { default ≤ most }
-    ensures value { IfOk result (λ n. n ≡ whole_setting least most name.now default (option_map (λ v. view v.now) config.entry)) }
-    ensures least { IfOk result (λ n. least ≤ n) }
-    ensures most { IfOk result (λ n. n ≤ most) }
+fn whole_of(setting: WholeSetting, text: Option<&str>) -> u64
+    requires { IsWholeSetting (Some setting) }
+    ensures value { result ≡ whole_by (Some setting) (option_map (λ t. t.now) text.entry) }
+    ensures least { setting.least ≤ result }
+    ensures most { result ≤ setting.most }
 {
-    match told(alloc, config, name)? {
-        Some(text) => Ok(whole_within(least, most, text.as_str()).unwrap_or(default)),
-        None => Ok(default),
+    match text {
+        Some(text) => whole_within(setting.least, setting.most, text).unwrap_or(setting.default),
+        None => setting.default,
     }
+}
+
+/// What the ratio of this name says, or its default where it is absent.
+#[tactic(auto, unfolding(crate::specs::Settings::ratio_setting))]
+pub fn ratio_setting(alloc: Global, config: Option<&Value>, name: &str) -> Result<Ratio, Memory>
+    requires { IsRatioSetting (ratio_named name.now) }
+    ensures value { IfOk result
+        (λ r. r ≡ ratio_setting name.now (option_map (λ v. view v.now) config.entry)) }
+    ensures taken { IfOk result (IsRatioOf (ratio_named name.now)) }
+{
+    let Some(setting) = ratio_named(name) else {
+        unreachable!()
+    };
+    let text = told(alloc, config, name)?;
+    Ok(ratio_of(setting, text.as_ref().map(|t| t.as_str())))
+}
+
+/// What the whole number of this name says, or its default where it is absent.
+#[tactic(auto, unfolding(crate::specs::Settings::whole_setting))]
+pub fn whole_setting(alloc: Global, config: Option<&Value>, name: &str) -> Result<u64, Memory>
+    requires { IsWholeSetting (whole_named name.now) }
+    ensures value { IfOk result
+        (λ n. n ≡ whole_setting name.now (option_map (λ v. view v.now) config.entry)) }
+    ensures taken { IfOk result (IsWholeOf (whole_named name.now)) }
+{
+    let Some(setting) = whole_named(name) else {
+        unreachable!()
+    };
+    let text = told(alloc, config, name)?;
+    Ok(whole_of(setting, text.as_ref().map(|t| t.as_str())))
 }

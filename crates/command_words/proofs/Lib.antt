@@ -1,3 +1,2 @@
 pub mod Meanings
-pub mod Pieces
 pub mod Rows

@@ -5,7 +5,6 @@ mod arguments;
 mod builders;
 mod commands;
 mod live;
-mod names;
 mod options;
 mod values;
 mod words;
@@ -16,6 +15,3 @@ pub use commands::{
 };
 pub use live::wants_live;
 pub use words::read_words;
-
-#[cfg(test)]
-mod tests;

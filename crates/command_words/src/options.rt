@@ -1,24 +1,34 @@
 // The options of each command, from what clap found in its words.
 ghost use Rattle.std.specs.Prelude.{◌≡◌, IfOk, option_and_then, option_map};
 ghost use Rattle.clap.specs.Words.{found_of, rows_of, subcommand_rows_of};
+ghost use Rattle.command_words.specs.Names.{names_of};
 ghost use Rattle.command_words.specs.Meaning.{apply_of, apply_told, asked_of, check_of, check_told, excluded_of, gen_of, gen_told, goals_of, goals_told, plan_of, plan_told, serve_of, serve_told, session_of, session_told, told, workers_of, workers_told};
 
 use crate::commands::{
     ApplyOptions, CheckOptions, Command, GenOptions, Goals, PlanOptions, ServeOptions,
     SessionOptions, Workers,
 };
-use crate::names::{goal_names, topic_names};
 use crate::values::{is_given, number_in};
 use clap::ArgMatches;
-use plan_terms::Topic;
+use plan_terms::{Name, Topic, names};
 use std::alloc::{AllocError, Global};
+
+// The names in the value of an option, none where it isn't given.
+fn names_of<K>(alloc: Global, text: Option<&str>) -> Result<Vec<Name<K>>, AllocError>
+    ensures { IfOk result (λ v. v.items ≡ names_of (option_map (λ s. s.now) text.entry)) }
+{
+    match text {
+        Some(text) => names(alloc, text),
+        None => Ok(Vec::new(alloc)),
+    }
+}
 
 #[tactic(auto, using(crate::proofs::Rows::first_text))]
 fn goals(alloc: Global, found: &ArgMatches<'_>) -> Result<Goals, AllocError>
     ensures { IfOk result (λ g. goals_told g ≡ goals_of (rows_of (found_of found.now))) }
 {
     Ok(Goals {
-        names: goal_names(alloc, found.get_str("goals"))?,
+        names: names_of(alloc, found.get_str("goals"))?,
         skip_hard_goal_check: is_given(found.get_str("skip-hard-goal-check")),
     })
 }
@@ -27,7 +37,7 @@ fn goals(alloc: Global, found: &ArgMatches<'_>) -> Result<Goals, AllocError>
 fn excluded_topics(alloc: Global, found: &ArgMatches<'_>) -> Result<Vec<Topic>, AllocError>
     ensures { IfOk result (λ v. v.items ≡ excluded_of (rows_of (found_of found.now))) }
 {
-    topic_names(alloc, found.get_str("excluded-topics"))
+    names_of(alloc, found.get_str("excluded-topics"))
 }
 
 #[tactic(auto, using(crate::proofs::Rows::first_text))]
@@ -113,7 +123,8 @@ fn session_options(
     alloc: Global,
     found: &ArgMatches<'_>,
 ) -> Result<Option<SessionOptions>, AllocError>
-    ensures { IfOk result (λ o. option_map session_told o ≡ session_of (rows_of (found_of found.now))) }
+    ensures { IfOk result
+        (λ o. option_map session_told o ≡ session_of (rows_of (found_of found.now))) }
 {
     let Some(file) = found.get_str("FILE") else {
         return Ok(None);
@@ -151,7 +162,8 @@ fn serve_options(alloc: Global, found: &ArgMatches<'_>) -> Result<Option<ServeOp
 
 /// The command with its options that clap found.
 pub fn found_command(alloc: Global, found: &ArgMatches<'_>) -> Result<Option<Command>, AllocError>
-    ensures { IfOk result (λ o. option_map told o ≡ option_and_then asked_of (subcommand_rows_of found.now)) }
+    ensures { IfOk result
+        (λ o. option_map told o ≡ option_and_then asked_of (subcommand_rows_of found.now)) }
 {
     let Some((name, inner)) = found.subcommand() else {
         return Ok(None);

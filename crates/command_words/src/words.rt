@@ -11,7 +11,8 @@ use std::alloc::Global;
 /// The command that the words mean, without the program's name. Words that ask for help mean none.
 pub fn read_words(alloc: Global, words: &[String]) -> Result<Command, WordsFault>
     ensures ok { IfOk result (λ c. meaning (map string_bytes words.now) ≡ Some (told c)) }
-    ensures usage { IfErr result (λ e. e ≡ WordsFault.Usage → meaning (map string_bytes words.now) ≡ None) }
+    ensures usage { IfErr result
+        (λ e. e ≡ WordsFault.Usage → meaning (map string_bytes words.now) ≡ None) }
 {
     let program = match whole_command(alloc) {
         Ok(program) => program,

@@ -38,9 +38,17 @@ impl<A: Admin> Model for Book<A> {
 
     ghost Value = { BookView A };
 
-    ghost view = { λ b. record { file = b.machine.file; journal = b.journal.items; failures = b.failures; late = b.late; settled = b.settled; admin = b.admin } };
+    ghost view = { λ b. record {
+      file = b.machine.file;
+      journal = b.journal.items;
+      failures = b.failures;
+      late = b.late;
+      settled = b.settled;
+      admin = b.admin;
+    } };
 
-    ghost invariant = { λ b. IsBook (A.told b.admin) (A.parts b.admin) (A.faults b.admin) b.machine b.journal.items (vec_capacity b.journal) b.failures b.late };
+    ghost invariant = { λ b. IsBook (A.told b.admin) (A.parts b.admin) (A.faults b.admin) b.machine
+        b.journal.items (vec_capacity b.journal) b.failures b.late };
 }
 
 impl<A: Admin> Book<A> {
@@ -60,9 +68,12 @@ impl<A: Admin> Book<A> {
         requires { IsFile file }
         ensures opened { IfOk result (λ b. b ≡ opened (file_seen file) b.admin) }
         ensures told { IfOk result (λ b. A.told b.admin ≡ installed (A.told admin) file.lists) }
-        ensures unchanged { IfErr result (λ e. (A.told e.1 ≡ A.told admin) × (A.parts e.1 ≡ A.parts admin)) }
-        ensures cause { IfErr result (λ e. e.0 ≡ InstallFault.Failed → HasRisen (A.faults admin) (A.faults e.1)) }
-        ensures later { MatchResult result (λ b. A.faults admin ≤ A.faults b.admin) (λ e. A.faults admin ≤ A.faults e.1) }
+        ensures unchanged { IfErr result
+            (λ e. (A.told e.1 ≡ A.told admin) × (A.parts e.1 ≡ A.parts admin)) }
+        ensures cause { IfErr result
+            (λ e. e.0 ≡ InstallFault.Failed → HasRisen (A.faults admin) (A.faults e.1)) }
+        ensures later { MatchResult result (λ b. A.faults admin ≤ A.faults b.admin)
+            (λ e. A.faults admin ≤ A.faults e.1) }
     {
         let Ok(machine) = Machine::open(alloc, file) else {
             return Err((InstallFault::Memory, admin));
@@ -96,7 +107,8 @@ impl<A: Admin> Book<A> {
         ensures handed_back { IfErr result (λ e. e.1 ≡ event) }
         ensures told { OnErr result (A.told self.new.admin ≡ A.told self.old.admin) }
         ensures fault { IfErr result (λ e. IsStepFault A.faults self.old event self.new e.0) }
-        ensures counted { OnOk result ((self.new.failures ≡ self.old.failures) × (self.new.late ≡ self.old.late)) }
+        ensures counted { OnOk result
+            ((self.new.failures ≡ self.old.failures) × (self.new.late ≡ self.old.late)) }
         ensures settled { self.new.settled ≡ self.old.settled }
         ensures later { A.faults self.old.admin ≤ A.faults self.new.admin }
     {
@@ -125,7 +137,8 @@ impl<A: Admin> Book<A> {
         ensures value { result.now ≡ self.now.journal }
         ensures legal { AreLegal self.now.journal }
         ensures input { IsInput self.now.file }
-        ensures lists { IfSome (A.told self.now.admin) (λ lists. lists ≡ lists_now (state_of self.now).desk.exec) }
+        ensures lists { IfSome (A.told self.now.admin)
+            (λ lists. lists ≡ lists_now (state_of self.now).desk.exec) }
     {
         self.journal.as_slice()
     }

@@ -33,7 +33,13 @@ impl Model for Desk {
 
     ghost Value = { state.Desk };
 
-    ghost view = { λ d. record { exec = d.exec; tasks = d.tasks; jobs = d.jobs.items; tickets = d.tickets; closing = d.closing } };
+    ghost view = { λ d. record {
+      exec = d.exec;
+      tasks = d.tasks;
+      jobs = d.jobs.items;
+      tickets = d.tickets;
+      closing = d.closing;
+    } };
 
     ghost invariant = { λ d. IsDesk d.tasks d.jobs.items d.open_tasks.items };
 }
@@ -41,7 +47,8 @@ impl Model for Desk {
 // Sets how far the user task at a place is.
 fn set_at(tasks: &mut TaskTable, place: usize, status: Status)
     requires { place < length tasks.old }
-    ensures { tasks.new ≡ slice_set tasks.old place (record (user_task_at tasks.old place) { status = status }) }
+    ensures { tasks.new
+        ≡ slice_set tasks.old place (record (user_task_at tasks.old place) { status = status }) }
 {
     let _few = tasks.tasks();
     tasks.set(place as u64 + 1, status);
@@ -71,7 +78,8 @@ impl Desk {
 
     /// The desk of an executor, without user tasks.
     pub fn new(alloc: Global, exec: Exec) -> Desk
-        ensures { result ≡ record { exec = exec; tasks = []; jobs = []; tickets = 0; closing = false } }
+        ensures { result
+            ≡ record { exec = exec; tasks = []; jobs = []; tickets = 0; closing = false } }
     {
         Desk {
             exec,

@@ -11,7 +11,7 @@ use crate::writes::write;
 use cc_base::Failed;
 use cluster_gate::Admin;
 use core_terms::Event;
-use load_model::Memory;
+use plan_terms::Memory;
 
 /// Adds an entry for which there is room.
 pub fn enter(journal: &mut Vec<Event>, event: Event)
@@ -50,7 +50,10 @@ impl Machine {
         requires tickets { AreTickets self.now.desk }
         requires room { length journal.old.items + kept_for self.now.desk ≤ vec_capacity journal.old }
         ensures items { journal.new.items ≡ journal.old.items }
-        ensures room { OnOk result (length journal.old.items + (if is_sure self.now.desk event.now then kept_for self.now.desk else kept_for self.now.desk + 2) ≤ vec_capacity journal.new) }
+        ensures room { OnOk result
+            (length journal.old.items +
+            (if is_sure self.now.desk event.now then kept_for self.now.desk else kept_for
+            self.now.desk + 2) ≤ vec_capacity journal.new) }
         ensures kept { length journal.old.items + kept_for self.now.desk ≤ vec_capacity journal.new }
         ensures sure { is_sure self.now.desk event.now ≡ true → IsOk result }
     {
@@ -65,7 +68,8 @@ impl Machine {
     pub fn write<A: Admin>(&self, admin: &mut A, event: &Event) -> Result<(), Failed>
         requires few { self.now.desk.exec.leases < 2 ^ 63 }
         requires installed { A.parts admin.old ≡ length self.now.desk.exec.base }
-        ensures told { OnOk result (A.told admin.new ≡ told_after self.now.desk.exec event.now (A.told admin.old)) }
+        ensures told { OnOk result
+            (A.told admin.new ≡ told_after self.now.desk.exec event.now (A.told admin.old)) }
         ensures failed { OnErr result (A.told admin.new ≡ A.told admin.old) }
         ensures parts { A.parts admin.new ≡ A.parts admin.old }
         ensures later { A.faults admin.old ≤ A.faults admin.new }

@@ -17,8 +17,9 @@ use core_laws::{every_book, every_event};
 use core_terms::Reply;
 use executor_core::opened;
 use goal_set::{Failure, GoalFault, Plan};
-use load_model::{Case, Memory};
+use load_model::Case;
 use metric_windows::Windows;
+use plan_terms::Memory;
 use proposal_set::proposals;
 use std::alloc::Global;
 use user_tasks::{Ask, task_id};
@@ -51,7 +52,8 @@ impl Machine {
         ensures input { IfOk result (λ m. IsInput m.file) }
         ensures desk { IfOk result (λ m. m.desk ≡ opening_desk m.file) }
         ensures windows { IfOk result AreWindows }
-        ensures stands { IfOk result (λ m. StandsFor m.windows (accepted m.file.rules m.file.samples)) }
+        ensures stands { IfOk result
+            (λ m. StandsFor m.windows (accepted m.file.rules m.file.samples)) }
     {
         let file = OpenFile::new(alloc, file)?;
         let windows = windows_of(alloc, &file)?;
@@ -67,7 +69,8 @@ impl Machine {
     /// The present cluster.
     pub fn present(&self, alloc: Global) -> Result<Case, Memory>
         requires { AreWindows self.now }
-        ensures value { (samples : List Sample) → StandsFor self.now.windows samples → IfOk result (λ c. c ≡ present self.now.file self.now.desk.exec.hosts samples) }
+        ensures value { (samples : List Sample) → StandsFor self.now.windows samples
+            → IfOk result (λ c. c ≡ present self.now.file self.now.desk.exec.hosts samples) }
         ensures one_each { IfOk result (λ c. length c.parts ≡ length self.now.file.cluster.parts) }
     {
         present(alloc, &self.file, &self.windows, &self.desk.exec)
@@ -77,10 +80,20 @@ impl Machine {
     #[tactic(auto, unfolding(core_terms::specs::Submits::refusal_of))]
     fn submit_new(&mut self, alloc: Global, ask: &Ask) -> Result<Reply, Memory>
         requires { AreWindows self.old }
-        ensures reply { IfOk result (λ r. (samples : List Sample) → StandsFor self.old.windows samples
-            → r ≡ or_accepted self.old.desk (refusal_of self.old.file (moment_of self.old.file (core_of self.old samples)) self.old.desk ask.now)) }
-        ensures desk { OnOk result ((samples : List Sample) → StandsFor self.old.windows samples
-            → self.new.desk ≡ unless_refused self.old.desk ask.now (refusal_of self.old.file (moment_of self.old.file (core_of self.old samples)) self.old.desk ask.now)) }
+        ensures reply { IfOk result
+            (λ r. (samples : List Sample) → StandsFor self.old.windows samples
+            → r
+            ≡ or_accepted self.old.desk
+            (refusal_of self.old.file
+            (moment_of self.old.file (core_of self.old samples)) self.old.desk
+            ask.now)) }
+        ensures desk { OnOk result
+            ((samples : List Sample) → StandsFor self.old.windows samples
+            → self.new.desk
+            ≡ unless_refused self.old.desk ask.now
+            (refusal_of self.old.file
+            (moment_of self.old.file (core_of self.old samples)) self.old.desk
+            ask.now)) }
         ensures windows { self.new.windows ≡ self.old.windows }
         ensures file { self.new.file ≡ self.old.file }
         ensures err { OnErr result (self.new ≡ self.old) }
@@ -112,10 +125,18 @@ impl Machine {
     /// A request for a plan, perhaps with the id of an earlier one.
     pub fn submit(&mut self, alloc: Global, ask: &Ask, key: Option<Uuid>) -> Result<Reply, Memory>
         requires { IsReady self.old }
-        ensures reply { IfOk result (λ r. (samples : List Sample) → StandsFor self.old.windows samples
-            → r ≡ reply_submit self.old.file (moment_of self.old.file (core_of self.old samples)) self.old.desk ask.now key) }
-        ensures desk { OnOk result ((samples : List Sample) → StandsFor self.old.windows samples
-            → self.new.desk ≡ after_submit self.old.file (moment_of self.old.file (core_of self.old samples)) self.old.desk ask.now key) }
+        ensures reply { IfOk result
+            (λ r. (samples : List Sample) → StandsFor self.old.windows samples
+            → r
+            ≡ reply_submit self.old.file
+            (moment_of self.old.file (core_of self.old samples)) self.old.desk ask.now
+            key) }
+        ensures desk { OnOk result
+            ((samples : List Sample) → StandsFor self.old.windows samples
+            → self.new.desk
+            ≡ after_submit self.old.file
+            (moment_of self.old.file (core_of self.old samples)) self.old.desk ask.now
+            key) }
         ensures windows { self.new.windows ≡ self.old.windows }
         ensures file { self.new.file ≡ self.old.file }
         ensures err { OnErr result (self.new ≡ self.old) }
@@ -129,9 +150,13 @@ impl Machine {
     /// A planner takes the first job that waits.
     pub fn plan_take(&mut self, alloc: Global) -> Result<Reply, Memory>
         requires { IsReady self.old }
-        ensures reply { IfOk result (λ r. (samples : List Sample) → StandsFor self.old.windows samples
-            → r ≡ reply_take_job (moment_of self.old.file (core_of self.old samples)) self.old.desk (first_waiting self.old.desk)) }
-        ensures desk { OnOk result (self.new.desk ≡ ticketed self.old.desk (first_waiting self.old.desk)) }
+        ensures reply { IfOk result
+            (λ r. (samples : List Sample) → StandsFor self.old.windows samples
+            → r
+            ≡ reply_take_job (moment_of self.old.file (core_of self.old samples))
+            self.old.desk (first_waiting self.old.desk)) }
+        ensures desk { OnOk result
+            (self.new.desk ≡ ticketed self.old.desk (first_waiting self.old.desk)) }
         ensures windows { self.new.windows ≡ self.old.windows }
         ensures file { self.new.file ≡ self.old.file }
         ensures err { OnErr result (self.new ≡ self.old) }
@@ -151,10 +176,16 @@ impl Machine {
     /// A plan is brought for the job of a ticket.
     pub fn planned(&mut self, alloc: Global, ticket: u64, plan: &Plan) -> Result<Reply, Memory>
         requires { IsReady self.old }
-        ensures reply { IfOk result (λ r. (samples : List Sample) → StandsFor self.old.windows samples
-            → r ≡ reply_planned (moment_of self.old.file (core_of self.old samples)) self.old.desk plan.now (holder_of ticket self.old.desk.jobs)) }
-        ensures desk { OnOk result ((samples : List Sample) → StandsFor self.old.windows samples
-            → self.new.desk ≡ planned (moment_of self.old.file (core_of self.old samples)) self.old.desk plan.now (holder_of ticket self.old.desk.jobs)) }
+        ensures reply { IfOk result
+            (λ r. (samples : List Sample) → StandsFor self.old.windows samples
+            → r
+            ≡ reply_planned (moment_of self.old.file (core_of self.old samples))
+            self.old.desk plan.now (holder_of ticket self.old.desk.jobs)) }
+        ensures desk { OnOk result
+            ((samples : List Sample) → StandsFor self.old.windows samples
+            → self.new.desk
+            ≡ planned (moment_of self.old.file (core_of self.old samples)) self.old.desk
+            plan.now (holder_of ticket self.old.desk.jobs)) }
         ensures windows { self.new.windows ≡ self.old.windows }
         ensures file { self.new.file ≡ self.old.file }
         ensures err { OnErr result (self.new ≡ self.old) }
@@ -184,10 +215,16 @@ impl Machine {
         failure: &Failure,
     ) -> Result<Reply, Memory>
         requires { IsReady self.old }
-        ensures reply { IfOk result (λ r. (samples : List Sample) → StandsFor self.old.windows samples
-            → r ≡ reply_refused (moment_of self.old.file (core_of self.old samples)) self.old.desk failure.now (holder_of ticket self.old.desk.jobs)) }
-        ensures desk { OnOk result ((samples : List Sample) → StandsFor self.old.windows samples
-            → self.new.desk ≡ refused (moment_of self.old.file (core_of self.old samples)) self.old.desk failure.now (holder_of ticket self.old.desk.jobs)) }
+        ensures reply { IfOk result
+            (λ r. (samples : List Sample) → StandsFor self.old.windows samples
+            → r
+            ≡ reply_refused (moment_of self.old.file (core_of self.old samples))
+            self.old.desk failure.now (holder_of ticket self.old.desk.jobs)) }
+        ensures desk { OnOk result
+            ((samples : List Sample) → StandsFor self.old.windows samples
+            → self.new.desk
+            ≡ refused (moment_of self.old.file (core_of self.old samples)) self.old.desk
+            failure.now (holder_of ticket self.old.desk.jobs)) }
         ensures windows { self.new.windows ≡ self.old.windows }
         ensures file { self.new.file ≡ self.old.file }
         ensures err { OnErr result (self.new ≡ self.old) }

@@ -92,7 +92,8 @@ fn waiting_among(tasks: &[UserTask], jobs: &[Job], places: &[usize]) -> Option<u
 pub fn first_in_execution(tasks: &[UserTask], open_tasks: &[usize]) -> Option<usize>
     requires { open_tasks.now ≡ open_places tasks.now }
     ensures place { result ≡ position (λ t. is_in_execution t.status) tasks.now }
-    ensures within { IfSome result (λ i. (i < length tasks.now) × (is_open (user_task_at tasks.now i).status ≡ true)) }
+    ensures within { IfSome result
+        (λ i. (i < length tasks.now) × (is_open (user_task_at tasks.now i).status ≡ true)) }
 {
     executing_among(tasks, open_tasks)
 }

@@ -12,10 +12,10 @@ use crate::places::{first_waiting, holder_among};
 use core_cases::{case_of, failure_is_for, is_dry, plan_is_for};
 use core_terms::{Broken, Problem, Reply};
 use goal_set::{Failure, Plan};
-use load_model::{Assign, Case, Memory};
-use plan_terms::Proposal;
+use load_model::{Assign, Case};
+use plan_terms::{ListOf, Memory, Proposal};
 use std::alloc::Global;
-use user_tasks::{ListOf, Status, UserTask};
+use user_tasks::{Status, UserTask};
 
 // Whether a plan with these changes is done as it stands.
 fn is_done_at_once(task: &UserTask, changes: &[Proposal]) -> bool
@@ -59,7 +59,8 @@ impl Desk {
     #[tactic(auto, unfolding(core_terms::specs::Plans::problem_at))]
     pub fn problem(&self, alloc: Global, present: Case, place: usize) -> Result<Problem, Memory>
         requires place { place < length self.now.jobs }
-        requires belongs { Belongs (problem_at present self.now place).case (problem_at present self.now place).start }
+        requires belongs { Belongs (problem_at present self.now place).case
+            (problem_at present self.now place).start }
         ensures { IfOk result (λ p. p ≡ problem_at present self.now place) }
     {
         let case = case_of(alloc, &self.tasks.tasks()[place].ask, present)?;

@@ -8,16 +8,22 @@ ghost use Rattle.control_core.specs.Machines.{AreWindows, IsReady, core_of, want
 
 use crate::machine::Machine;
 use core_cases::sample;
-use core_terms::{Event, Measured, Reply};
-use load_model::{Memory, Topic};
+use core_terms::{Event, Reply};
+use plan_terms::{Measured, Memory, Topic};
 use std::alloc::Global;
 
 impl Machine {
     // A sample of a partition.
     fn sample(&mut self, topic: &Topic, number: u32, time: u64, measured: &Measured) -> Reply
         requires { AreWindows self.old }
-        ensures reply { (samples : List Sample) → StandsFor self.old.windows samples → result ≡ reply_sample self.old.file self.old.desk.closing samples topic.now number time measured.now }
-        ensures stands { (samples : List Sample) → StandsFor self.old.windows samples → StandsFor self.new.windows (sampled self.old.file self.old.desk.closing samples topic.now number time measured.now) }
+        ensures reply { (samples : List Sample) → StandsFor self.old.windows samples
+            → result
+            ≡ reply_sample self.old.file self.old.desk.closing samples topic.now number time
+            measured.now }
+        ensures stands { (samples : List Sample) → StandsFor self.old.windows samples
+            → StandsFor self.new.windows
+            (sampled self.old.file self.old.desk.closing samples topic.now number time
+            measured.now) }
         ensures windows { AreWindows self.new }
         ensures desk { self.new.desk ≡ self.old.desk }
         ensures file { self.new.file ≡ self.old.file }
@@ -37,9 +43,16 @@ impl Machine {
     /// Answers an event, and is in the next state. Only an event that wants memory may meet want of it, and then nothing changes.
     pub fn serve(&mut self, alloc: Global, event: &Event) -> Result<Reply, Memory>
         requires { IsReady self.old }
-        ensures reply { IfOk result (λ r. (samples : List Sample) → StandsFor self.old.windows samples → r ≡ reply_of self.old.file (core_of self.old samples) event.now) }
-        ensures desk { OnOk result ((samples : List Sample) → StandsFor self.old.windows samples → self.new.desk ≡ (next self.old.file (core_of self.old samples) event.now).desk) }
-        ensures stands { OnOk result ((samples : List Sample) → StandsFor self.old.windows samples → StandsFor self.new.windows (next self.old.file (core_of self.old samples) event.now).samples) }
+        ensures reply { IfOk result
+            (λ r. (samples : List Sample) → StandsFor self.old.windows samples
+            → r ≡ reply_of self.old.file (core_of self.old samples) event.now) }
+        ensures desk { OnOk result
+            ((samples : List Sample) → StandsFor self.old.windows samples
+            → self.new.desk ≡ (next self.old.file (core_of self.old samples) event.now).desk) }
+        ensures stands { OnOk result
+            ((samples : List Sample) → StandsFor self.old.windows samples
+            → StandsFor self.new.windows
+            (next self.old.file (core_of self.old samples) event.now).samples) }
         ensures windows { AreWindows self.new }
         ensures file { self.new.file ≡ self.old.file }
         ensures err { OnErr result (self.new ≡ self.old) }

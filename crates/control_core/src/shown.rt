@@ -8,16 +8,21 @@ ghost use Rattle.control_core.specs.Machines.{IsReady, core_of};
 
 use crate::machine::Machine;
 use core_cases::{cluster_shown, load_shown, state_shown, tasks_shown, valid_parts};
-use core_terms::{Query, Reply, Shown};
-use load_model::Memory;
+use core_terms::{Reply, Shown};
+use plan_terms::Memory;
 use std::alloc::Global;
+use user_tasks::Query;
 
 impl Machine {
     /// What was asked to be shown.
     pub fn show(&self, alloc: Global, query: Query) -> Result<Reply, Memory>
         requires { IsReady self.now }
-        ensures { IfOk result (λ r. (samples : List Sample) → StandsFor self.now.windows samples
-            → r ≡ Reply.Shown (shown_of self.now.file (moment_of self.now.file (core_of self.now samples)) self.now.desk query)) }
+        ensures { IfOk result
+            (λ r. (samples : List Sample) → StandsFor self.now.windows samples
+            → r
+            ≡ Reply.Shown
+            (shown_of self.now.file (moment_of self.now.file (core_of self.now samples))
+            self.now.desk query)) }
     {
         match query {
             Query::State => {

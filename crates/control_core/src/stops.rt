@@ -5,8 +5,9 @@ ghost use Rattle.core_terms.specs.Works.{reply_stop, stopped, reply_kill, killed
 
 use crate::desk::Desk;
 use core_terms::{CapChange, Reply};
-use exec_terms::{Caps, KillFault};
+use exec_terms::KillFault;
 use executor_core::Exec;
+use plan_terms::Caps;
 
 // The new cap, where there is one.
 fn or_kept(old: u32, new: Option<u32>) -> u32

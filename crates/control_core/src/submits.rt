@@ -11,10 +11,9 @@ use crate::places::{first_in_execution, first_planning};
 use core_cases::{is_dry, same_ask};
 use core_terms::{Job, Named, Outcome, Reply};
 use goal_set::GoalList;
-use load_model::{Memory, Part};
-use plan_terms::Proposal;
+use plan_terms::{ListOf, Memory, Part, Proposal};
 use std::alloc::Global;
-use user_tasks::{Ask, ListOf, Status, UserTask, ids_are_distinct, number_of};
+use user_tasks::{Ask, Status, UserTask, ids_are_distinct, number_of};
 use uuid::Uuid;
 
 // A proposal by the name of its partition.
@@ -90,7 +89,15 @@ fn place_of(tasks: &[UserTask], id: Uuid) -> Option<usize>
 
 // A job that waits for a planner.
 fn new_job(alloc: Global, goals: GoalList) -> Job
-    ensures { result ≡ record { goals = goals; ticket = None; proposals = []; broken = None; aborted = 0; dead = 0 } }
+    ensures { result
+        ≡ record {
+          goals = goals;
+          ticket = None;
+          proposals = [];
+          broken = None;
+          aborted = 0;
+          dead = 0;
+        } }
 {
     Job {
         goals,
@@ -122,7 +129,8 @@ impl Desk {
     /// The user task of an id, if it was asked the same.
     pub fn find(&self, alloc: Global, parts: &[Part], id: Uuid, ask: &Ask) -> Result<Reply, Memory>
         requires { All (λ j. All (λ p. p.part < length parts.now) j.proposals) self.now.jobs }
-        ensures { IfOk result (λ r. r ≡ found_at parts.now self.now id ask.now (place_of id self.now.tasks)) }
+        ensures { IfOk result
+            (λ r. r ≡ found_at parts.now self.now id ask.now (place_of id self.now.tasks)) }
     {
         let tasks = self.tasks.tasks();
         match place_of(tasks, id) {

@@ -17,7 +17,8 @@ use executor_core::Exec;
 fn begin<A: Admin>(admin: &mut A, exec: &Exec) -> Result<(), Failed>
     requires few { exec.now.leases < 2 ^ 63 }
     requires installed { A.parts admin.old ≡ length exec.now.base }
-    ensures told { OnOk result (A.told admin.new ≡ begun exec.now (A.told admin.old) (next_work exec.now)) }
+    ensures told { OnOk result
+        (A.told admin.new ≡ begun exec.now (A.told admin.old) (next_work exec.now)) }
     ensures failed { OnErr result (A.told admin.new ≡ A.told admin.old) }
     ensures parts { A.parts admin.new ≡ A.parts admin.old }
     ensures later { A.faults admin.old ≤ A.faults admin.new }
@@ -37,7 +38,9 @@ fn begin<A: Admin>(admin: &mut A, exec: &Exec) -> Result<(), Failed>
 // The last work on the task of a lease: a commit writes its new list, and a cancel its old one.
 fn finish<A: Admin>(admin: &mut A, exec: &Exec, lease: u64, kind: WorkKind) -> Result<(), Failed>
     requires installed { A.parts admin.old ≡ length exec.now.base }
-    ensures told { OnOk result (A.told admin.new ≡ written (last_list kind) exec.now (A.told admin.old) (test_lease exec.now lease kind)) }
+    ensures told { OnOk result
+        (A.told admin.new
+        ≡ written (last_list kind) exec.now (A.told admin.old) (test_lease exec.now lease kind)) }
     ensures failed { OnErr result (A.told admin.new ≡ A.told admin.old) }
     ensures parts { A.parts admin.new ≡ A.parts admin.old }
     ensures later { A.faults admin.old ≤ A.faults admin.new }

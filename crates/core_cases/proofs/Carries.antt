@@ -6,9 +6,8 @@ use Rattle.std.proofs.lemmas.List.{get_or-map, get_or-set_other, get_or-set_same
 use Rattle.std.proofs.lemmas.Simd.{map-map}
 use Rattle.std.proofs.lemmas.List.Sums.{sum_by_push}
 use Rattle.std.proofs.lemmas.List.Quantifiers.{position-Some}
-use Rattle.load_model.specs.Places.{id_at}
 use Rattle.load_model.proofs.Listed.{position-map}
-use Rattle.plan_terms.specs.Cluster.{Cluster, Lists, leads}
+use Rattle.plan_terms.specs.Cluster.{Cluster, Lists, leads, id_at}
 use Rattle.plan_terms.specs.Load.{list_load, sum_parts}
 use Rattle.plan_terms.specs.declared.cluster.Broker.{Broker}
 use Rattle.plan_terms.specs.declared.cluster.BrokerState.{BrokerState}

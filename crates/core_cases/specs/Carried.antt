@@ -6,6 +6,7 @@ use Rattle.plan_terms.specs.Load.{list_load}
 use Rattle.plan_terms.specs.declared.cluster.Broker.{Broker}
 use Rattle.plan_terms.specs.declared.cluster.Part.{Part}
 use Rattle.core_terms.specs.declared.shows.BrokerShown.{BrokerShown}
+use Rattle.plan_terms.specs.Resources.{CPU, NW_IN, NW_OUT, DISK}
 
 -- a broker that carries nothing
 abbrev pub idle : Broker → BrokerShown
@@ -22,7 +23,7 @@ with_place p first s = record s {
   nw_in = s.nw_in + place_load p first 1;
   nw_out = s.nw_out + place_load p first 2;
   disk = s.disk + place_load p first 3;
-  potential_nw_out = s.potential_nw_out + slice_index p.loads.lead 2;
+  potential_nw_out = s.potential_nw_out + slice_index p.loads.lead NW_OUT;
   replicas = s.replicas + 1;
   leaders = s.leaders + (if first then 1 else 0);
 }
@@ -34,11 +35,11 @@ with_member p first id s = if id == s.broker then with_place p first s else s
 -- the places of the broker in a partition's list
 abbrev pub with_list : Part → List ℕ → BrokerShown → BrokerShown
 with_list p list s = record s {
-  cpu = s.cpu + list_load (slice_index p.loads.lead 0) (slice_index p.loads.follow 0) s.broker list;
-  nw_in = s.nw_in + list_load (slice_index p.loads.lead 1) (slice_index p.loads.follow 1) s.broker list;
-  nw_out = s.nw_out + list_load (slice_index p.loads.lead 2) (slice_index p.loads.follow 2) s.broker list;
-  disk = s.disk + list_load (slice_index p.loads.lead 3) (slice_index p.loads.follow 3) s.broker list;
-  potential_nw_out = s.potential_nw_out + slice_index p.loads.lead 2 * count_by (λ x. x == s.broker) list;
+  cpu = s.cpu + list_load (slice_index p.loads.lead CPU) (slice_index p.loads.follow CPU) s.broker list;
+  nw_in = s.nw_in + list_load (slice_index p.loads.lead NW_IN) (slice_index p.loads.follow NW_IN) s.broker list;
+  nw_out = s.nw_out + list_load (slice_index p.loads.lead NW_OUT) (slice_index p.loads.follow NW_OUT) s.broker list;
+  disk = s.disk + list_load (slice_index p.loads.lead DISK) (slice_index p.loads.follow DISK) s.broker list;
+  potential_nw_out = s.potential_nw_out + slice_index p.loads.lead NW_OUT * count_by (λ x. x == s.broker) list;
   replicas = s.replicas + count_by (λ x. x == s.broker) list;
   leaders = s.leaders + (if leads list s.broker then 1 else 0);
 }

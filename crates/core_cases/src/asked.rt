@@ -11,7 +11,7 @@ ghost use Rattle.core_cases.specs.Excluded.{HasTopics};
 use crate::file::OpenFile;
 use goal_set::{GoalFault, GoalList};
 use load_model::Case;
-use plan_terms::{Broker, BrokerState, Memory, Part, Topic};
+use plan_terms::{Broker, BrokerState, Memory, Part, Topic, has};
 use std::alloc::Global;
 use std::collections::HashSet;
 use user_tasks::{Ask, Op};
@@ -56,13 +56,6 @@ pub fn first_unknown(file: &OpenFile, brokers: &[u32]) -> Option<u32>
     brokers.iter().copied().find(|b| is_unknown(file, *b))
 }
 
-/// Whether the broker is among these.
-pub fn has(brokers: &[u32], broker: u32) -> bool
-    ensures { result ≡ has brokers.now broker }
-{
-    brokers.contains(&broker)
-}
-
 // What the request makes of a broker that it names and that lives.
 fn state_asked(op: Op, state: BrokerState) -> BrokerState
     ensures { result ≡ state_asked op state }
@@ -89,7 +82,8 @@ fn state_for(ask: &Ask, broker: &Broker) -> BrokerState
 // The broker at a place is as the request sees it.
 fn ask_broker(case: &mut Case, place: usize, ask: &Ask)
     requires { place < length case.old.brokers }
-    ensures { case.new ≡ record case.old { brokers = changed_at (broker_asked ask.now) case.old.brokers place } }
+    ensures { case.new
+        ≡ record case.old { brokers = changed_at (broker_asked ask.now) case.old.brokers place } }
 {
     let broker = &case.brokers()[place];
     let state = state_for(ask, broker);
@@ -127,7 +121,8 @@ fn is_excluded(excluded: &HashSet<String>, part: &Part) -> bool
 // The partition at a place is as the request sees it.
 fn ask_part(case: &mut Case, place: usize, excluded: &HashSet<String>)
     requires { place < length case.old.parts }
-    ensures one { (ask : Ask) → HasTopics excluded.now ask.excluded → case.new ≡ record case.old { parts = changed_at (part_asked ask) case.old.parts place } }
+    ensures one { (ask : Ask) → HasTopics excluded.now ask.excluded
+        → case.new ≡ record case.old { parts = changed_at (part_asked ask) case.old.parts place } }
     ensures long { length case.new.parts ≡ length case.old.parts }
 {
     let part = &case.parts()[place];
@@ -137,7 +132,8 @@ fn ask_part(case: &mut Case, place: usize, excluded: &HashSet<String>)
 
 // The partitions are as the request sees them.
 fn ask_parts(case: &mut Case, excluded: &HashSet<String>)
-    ensures { (ask : Ask) → HasTopics excluded.now ask.excluded → case.new ≡ record case.old { parts = map (part_asked ask) case.old.parts } }
+    ensures { (ask : Ask) → HasTopics excluded.now ask.excluded
+        → case.new ≡ record case.old { parts = map (part_asked ask) case.old.parts } }
 {
     let end = case.parts().len();
     for place in 0..end {

@@ -7,7 +7,7 @@ ghost use Rattle.core_cases.specs.Carried.{IsWithin, idle, with_list, with_membe
 
 use core_terms::BrokerShown;
 use load_model::Case;
-use plan_terms::{Broker, Memory, Part};
+use plan_terms::{Broker, Memory, Part, resources};
 use std::alloc::Global;
 use std::marker::Model;
 
@@ -61,11 +61,11 @@ fn add_place(row: &mut BrokerShown, part: &Part, first: bool)
     } else {
         part.loads.follow
     };
-    row.cpu += u128::from(loads[0]);
-    row.nw_in += u128::from(loads[1]);
-    row.nw_out += u128::from(loads[2]);
-    row.disk += u128::from(loads[3]);
-    row.potential_nw_out += u128::from(part.loads.lead[2]);
+    row.cpu += u128::from(loads[resources::CPU]);
+    row.nw_in += u128::from(loads[resources::NW_IN]);
+    row.nw_out += u128::from(loads[resources::NW_OUT]);
+    row.disk += u128::from(loads[resources::DISK]);
+    row.potential_nw_out += u128::from(part.loads.lead[resources::NW_OUT]);
     row.replicas += 1;
     row.leaders += u64::from(first);
 }
@@ -85,7 +85,8 @@ impl Carried {
         requires part { part < length case.now.parts }
         requires ids { map (λ s. s.broker) self.old ≡ map (λ b. b.id) case.now.brokers }
         requires within { All (IsWithin (2 ^ 60)) self.old }
-        ensures more { self.new ≡ map (with_member (get_or case.now.parts part no_part) first id) self.old }
+        ensures more { self.new
+            ≡ map (with_member (get_or case.now.parts part no_part) first id) self.old }
         ensures within { (n : ℕ) → All (IsWithin n) self.old → All (IsWithin (n + 1)) self.new }
     {
         if let Some(broker) = case.place(id) {
@@ -99,7 +100,8 @@ impl Carried {
         requires few { length list.now ≤ 16 }
         requires ids { map (λ s. s.broker) self.old ≡ map (λ b. b.id) case.now.brokers }
         requires within { All (IsWithin (2 ^ 59)) self.old }
-        ensures more { self.new ≡ map (with_list (get_or case.now.parts part no_part) list.now) self.old }
+        ensures more { self.new
+            ≡ map (with_list (get_or case.now.parts part no_part) list.now) self.old }
         ensures within { (n : ℕ) → All (IsWithin n) self.old → All (IsWithin (n + 16)) self.new }
     {
         for (place, id) in list.iter().enumerate() {

@@ -29,7 +29,8 @@ impl Model for OpenFile {
 
     ghost view = { λ f. file_seen f.file };
 
-    ghost invariant = { λ f. IsInput (file_seen f.file) × IsIndexOf f.file.case.parts f.index.numbers f.index.places };
+    ghost invariant = { λ f. IsInput (file_seen f.file)
+        × IsIndexOf f.file.case.parts f.index.numbers f.index.places };
 }
 
 impl OpenFile {

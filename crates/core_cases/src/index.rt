@@ -26,7 +26,8 @@ fn number_topic(
     topic: &str,
 ) -> Result<usize, Memory>
     ensures named { IfOk result (λ n. number_in numbers.new topic.now ≡ Some n) }
-    ensures kept { (parts : List Part) (places : ℕ → ℕ → Option ℕ) → IsIndex parts (number_in numbers.old) places (hash_map_len numbers.old)
+    ensures kept { (parts : List Part) (places : ℕ → ℕ → Option ℕ)
+        → IsIndex parts (number_in numbers.old) places (hash_map_len numbers.old)
         → OnOk result (IsIndex parts (number_in numbers.new) places (hash_map_len numbers.new)) }
 {
     match numbers.get(topic) {
@@ -46,7 +47,11 @@ fn note_place(
     number: u32,
     place: usize,
 ) -> Result<(), Memory>
-    ensures { OnOk result ((t n : ℕ) → place_in places.new t n ≡ option_or (place_in places.old t n) (if (topic == t) && (number == n) then Some place else None)) }
+    ensures { OnOk result
+        ((t n : ℕ)
+        → place_in places.new t n
+        ≡ option_or (place_in places.old t n)
+        (if (topic == t) && (number == n) then Some place else None)) }
 {
     let key = (topic, number);
     if !places.contains_key(&key) {
@@ -58,7 +63,8 @@ fn note_place(
 impl PartIndex {
     // Notes one partition more.
     fn note(&mut self, alloc: Global, part: &Part, place: usize) -> Result<(), Memory>
-        ensures { (parts : List Part) → length parts ≡ place → IsIndexOf parts self.old.numbers self.old.places
+        ensures { (parts : List Part) → length parts ≡ place
+            → IsIndexOf parts self.old.numbers self.old.places
             → OnOk result (IsIndexOf (parts ++ part.now ∷ []) self.new.numbers self.new.places) }
     {
         let topic = number_topic(alloc, &mut self.numbers, part.topic.as_str())?;
@@ -82,7 +88,8 @@ impl PartIndex {
 
     /// The place of the partition of a topic and number. It looks at no other.
     pub fn place(&self, topic: &str, number: u32) -> Option<usize>
-        ensures { (parts : List Part) → IsIndexOf parts self.now.numbers self.now.places → result ≡ part_place parts topic.now number }
+        ensures { (parts : List Part) → IsIndexOf parts self.now.numbers self.now.places
+            → result ≡ part_place parts topic.now number }
     {
         let topic = self.numbers.get(topic)?;
         self.places.get(&(*topic, number)).copied()

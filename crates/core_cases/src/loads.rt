@@ -21,7 +21,8 @@ use std::alloc::Global;
 // Adds a sample. One that is refused is left out.
 fn note(windows: &mut Windows, sample: &Sample)
     requires { IsSample windows.old.parts sample.now }
-    ensures stands { (seen : List Sample) → StandsFor windows.old seen → StandsFor windows.new (and_accepted windows.old.rules seen sample.now) }
+    ensures stands { (seen : List Sample) → StandsFor windows.old seen
+        → StandsFor windows.new (and_accepted windows.old.rules seen sample.now) }
     ensures rules { windows.new.rules ≡ windows.old.rules }
     ensures parts { windows.new.parts ≡ windows.old.parts }
 {
@@ -86,7 +87,11 @@ fn load_part(case: &mut Case, windows: &Windows, part: usize)
     requires part { part < length case.old.parts }
     requires few { length case.old.parts ≤ 10000 }
     requires parts { windows.now.parts ≡ length case.old.parts }
-    ensures loads { (samples : List Sample) → StandsFor windows.now samples → case.new ≡ record case.old { parts = loaded_at case.old.parts part (load_of windows.now.rules samples part) } }
+    ensures loads { (samples : List Sample) → StandsFor windows.now samples
+        → case.new
+        ≡ record case.old {
+          parts = loaded_at case.old.parts part (load_of windows.now.rules samples part);
+        } }
     ensures long { length case.new.parts ≡ length case.old.parts }
 {
     let loads = windows.load_of(part as u32);
@@ -96,7 +101,11 @@ fn load_part(case: &mut Case, windows: &Windows, part: usize)
 // Gives each partition the loads of its windows, where they have any.
 fn load_parts(case: &mut Case, windows: &Windows)
     requires { windows.now.parts ≡ length case.old.parts }
-    ensures loads { (samples : List Sample) → StandsFor windows.now samples → case.new ≡ record case.old { parts = loaded_from (load_of windows.now.rules samples) 0 case.old.parts } }
+    ensures loads { (samples : List Sample) → StandsFor windows.now samples
+        → case.new
+        ≡ record case.old {
+          parts = loaded_from (load_of windows.now.rules samples) 0 case.old.parts;
+        } }
     ensures long { length case.new.parts ≡ length case.old.parts }
 {
     let end = case.parts().len();
@@ -110,7 +119,8 @@ fn load_parts(case: &mut Case, windows: &Windows)
 pub fn loaded(alloc: Global, file: &OpenFile, windows: &Windows) -> Result<Case, Memory>
     requires rules { windows.now.rules ≡ file.now.rules }
     requires parts { windows.now.parts ≡ length file.now.cluster.parts }
-    ensures value { (samples : List Sample) → StandsFor windows.now samples → IfOk result (λ c. c ≡ record file.now.cluster { parts = loaded_parts file.now samples }) }
+    ensures value { (samples : List Sample) → StandsFor windows.now samples
+        → IfOk result (λ c. c ≡ record file.now.cluster { parts = loaded_parts file.now samples }) }
     ensures one_each { IfOk result (λ c. length c.parts ≡ length file.now.cluster.parts) }
 {
     let mut case = file.case().copy(alloc)?;
@@ -122,7 +132,11 @@ pub fn loaded(alloc: Global, file: &OpenFile, windows: &Windows) -> Result<Case,
 #[tactic(auto, unfolding(core_terms::specs::Input::loaded_parts))]
 pub fn loaded_case(alloc: Global, file: &ClusterFile) -> Result<Case, Memory>
     requires { IsFile file.now }
-    ensures value { IfOk result (λ c. c ≡ record file.now.case { parts = loaded_parts (file_seen file.now) (accepted file.now.rules file.now.samples.items) }) }
+    ensures value { IfOk result
+        (λ c. c
+        ≡ record file.now.case {
+          parts = loaded_parts (file_seen file.now) (accepted file.now.rules file.now.samples.items);
+        }) }
     ensures belongs { IfOk result (λ c. Belongs c file.now.lists) }
 {
     let parts = file.case.parts().len() as u32;
@@ -137,7 +151,8 @@ fn has_loads(file: &OpenFile, windows: &Windows, part: u32) -> bool
     requires rules { windows.now.rules ≡ file.now.rules }
     requires parts { windows.now.parts ≡ length file.now.cluster.parts }
     requires part { part < length file.now.cluster.parts }
-    ensures { (samples : List Sample) → StandsFor windows.now samples → result ≡ has_loads file.now samples part }
+    ensures { (samples : List Sample) → StandsFor windows.now samples
+        → result ≡ has_loads file.now samples part }
 {
     let given = file.with_load();
     windows.load_of(part).is_some() || given[part as usize]
@@ -148,7 +163,8 @@ fn has_loads(file: &OpenFile, windows: &Windows, part: u32) -> bool
 pub fn valid_parts(file: &OpenFile, windows: &Windows) -> u32
     requires rules { windows.now.rules ≡ file.now.rules }
     requires parts { windows.now.parts ≡ length file.now.cluster.parts }
-    ensures value { (samples : List Sample) → StandsFor windows.now samples → result ≡ valid_parts file.now samples }
+    ensures value { (samples : List Sample) → StandsFor windows.now samples
+        → result ≡ valid_parts file.now samples }
     ensures few { result ≤ 10000 }
 {
     let mut valid = 0;

@@ -29,7 +29,10 @@ fn state_now(exec: &Exec, broker: &Broker) -> BrokerState
 // The broker at a place is as it is now.
 fn mark_broker(case: &mut Case, place: usize, exec: &Exec)
     requires { place < length case.old.brokers }
-    ensures { case.new ≡ record case.old { brokers = changed_at (broker_now exec.now.hosts) case.old.brokers place } }
+    ensures { case.new
+        ≡ record case.old {
+          brokers = changed_at (broker_now exec.now.hosts) case.old.brokers place;
+        } }
 {
     let broker = &case.brokers()[place];
     let state = state_now(exec, broker);
@@ -38,7 +41,8 @@ fn mark_broker(case: &mut Case, place: usize, exec: &Exec)
 
 // The brokers are as they are now.
 fn mark_brokers(case: &mut Case, exec: &Exec)
-    ensures { case.new ≡ record case.old { brokers = map (broker_now exec.now.hosts) case.old.brokers } }
+    ensures { case.new
+        ≡ record case.old { brokers = map (broker_now exec.now.hosts) case.old.brokers } }
 {
     let end = case.brokers().len();
     for place in 0..end {
@@ -56,9 +60,11 @@ pub fn present(
 ) -> Result<Case, Memory>
     requires rules { windows.now.rules ≡ file.now.rules }
     requires parts { windows.now.parts ≡ length file.now.cluster.parts }
-    ensures value { (samples : List Sample) → StandsFor windows.now samples → IfOk result (λ c. c ≡ present file.now exec.now.hosts samples) }
+    ensures value { (samples : List Sample) → StandsFor windows.now samples
+        → IfOk result (λ c. c ≡ present file.now exec.now.hosts samples) }
     ensures one_each { IfOk result (λ c. length c.parts ≡ length file.now.cluster.parts) }
-    ensures belongs { (samples : List Sample) → StandsFor windows.now samples → (lists : Lists) → Belongs file.now.cluster lists → IfOk result (λ c. Belongs c lists) }
+    ensures belongs { (samples : List Sample) → StandsFor windows.now samples → (lists : Lists)
+        → Belongs file.now.cluster lists → IfOk result (λ c. Belongs c lists) }
 {
     let mut case = loaded(alloc, file, windows)?;
     mark_brokers(&mut case, exec);

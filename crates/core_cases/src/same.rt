@@ -175,7 +175,9 @@ fn same_goals(one: &GoalList, other: &GoalList) -> bool
 
 /// Whether a plan is for this case, these lists to begin with, and these goals.
 pub fn plan_is_for(plan: &Plan, case: &Case, start: &[Replicas], goals: &GoalList) -> bool
-    ensures { result ≡ same_problem (problem_of_plan plan.now) (record { case = case.now; start = start.now; goals = goals.now }) }
+    ensures { result
+        ≡ same_problem (problem_of_plan plan.now)
+        (record { case = case.now; start = start.now; goals = goals.now }) }
 {
     same_cluster(plan.case(), case)
         && same_lists(plan.start(), start)
@@ -184,7 +186,9 @@ pub fn plan_is_for(plan: &Plan, case: &Case, start: &[Replicas], goals: &GoalLis
 
 /// Whether a failure is of this case, these lists to begin with, and these goals.
 pub fn failure_is_for(failure: &Failure, case: &Case, start: &[Replicas], goals: &GoalList) -> bool
-    ensures { result ≡ same_problem (problem_of_failure failure.now) (record { case = case.now; start = start.now; goals = goals.now }) }
+    ensures { result
+        ≡ same_problem (problem_of_failure failure.now)
+        (record { case = case.now; start = start.now; goals = goals.now }) }
 {
     same_cluster(failure.case(), case)
         && same_lists(failure.start(), start)

@@ -6,9 +6,9 @@ ghost use Rattle.metric_windows.specs.StandsFor.{StandsFor};
 ghost use Rattle.core_terms.specs.Works.{part_place, sample_told, with_sample, sample_at, reply_sample, sampled};
 
 use crate::file::OpenFile;
-use core_terms::{Measured, Reply};
+use core_terms::Reply;
 use metric_windows::{SampleFault, Windows};
-use plan_terms::Topic;
+use plan_terms::{Measured, Topic};
 
 // What a refused sample is answered.
 fn fault_told(fault: SampleFault) -> Reply
@@ -23,9 +23,13 @@ fn fault_told(fault: SampleFault) -> Reply
 // Adds a sample of the partition at a place.
 fn add_sample(windows: &mut Windows, part: u32, time: u64, measured: &Measured) -> Reply
     requires { part < windows.old.parts }
-    ensures reply { (samples : List Sample) → StandsFor windows.old samples → result ≡ sample_told (refusal windows.old.rules samples (sample_at part time measured.now)) }
+    ensures reply { (samples : List Sample) → StandsFor windows.old samples
+        → result
+        ≡ sample_told (refusal windows.old.rules samples (sample_at part time measured.now)) }
     ensures state { (samples : List Sample) → StandsFor windows.old samples
-        → StandsFor windows.new (with_sample samples (sample_at part time measured.now) (refusal windows.old.rules samples (sample_at part time measured.now))) }
+        → StandsFor windows.new
+        (with_sample samples (sample_at part time measured.now)
+        (refusal windows.old.rules samples (sample_at part time measured.now))) }
     ensures rules { windows.new.rules ≡ windows.old.rules }
     ensures parts { windows.new.parts ≡ windows.old.parts }
 {
@@ -47,8 +51,11 @@ pub fn sample(
 ) -> Reply
     requires rules { windows.old.rules ≡ file.now.rules }
     requires parts { windows.old.parts ≡ length file.now.cluster.parts }
-    ensures reply { (samples : List Sample) → StandsFor windows.old samples → result ≡ reply_sample file.now closing samples topic.now number time measured.now }
-    ensures state { (samples : List Sample) → StandsFor windows.old samples → StandsFor windows.new (sampled file.now closing samples topic.now number time measured.now) }
+    ensures reply { (samples : List Sample) → StandsFor windows.old samples
+        → result ≡ reply_sample file.now closing samples topic.now number time measured.now }
+    ensures state { (samples : List Sample) → StandsFor windows.old samples
+        → StandsFor windows.new
+        (sampled file.now closing samples topic.now number time measured.now) }
     ensures rules { windows.new.rules ≡ windows.old.rules }
     ensures parts { windows.new.parts ≡ windows.old.parts }
 {

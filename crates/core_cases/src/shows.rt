@@ -6,15 +6,14 @@ ghost use Rattle.exec_terms.specs.Machine.{lists_now};
 ghost use Rattle.exec_terms.specs.Words.{is_on};
 ghost use Rattle.core_terms.specs.Shows.{adding_by, executor_state, load_shown, lost_ids, part_shown, parts_shown, removing_by, state_shown, tasks_shown};
 
-use crate::asked::has;
 use crate::carried::Carried;
 use crate::file::OpenFile;
 use core_terms::{BrokerShown, ExecutorState, PartShown, Shown, StateShown, TaskShown};
 use executor_core::Exec;
 use load_model::Case;
-use plan_terms::{Memory, Part, Replicas};
+use plan_terms::{ListOf, Memory, Part, Replicas, has};
 use std::alloc::Global;
-use user_tasks::{ListOf, UserTask, task_id};
+use user_tasks::{UserTask, task_id};
 
 // What the executor does.
 fn executor_state(exec: &Exec) -> ExecutorState
@@ -114,11 +113,10 @@ fn part_shown(
     ensures { IfOk result (λ s. s ≡ part_shown exec.now (place, part.now)) }
 {
     let (adding, removing) = moving(alloc, exec, task)?;
-    let list = Vec::from_slice(alloc, exec.list_by(place, task))?;
     Ok(PartShown {
         topic: part.topic.copy(alloc)?,
         number: part.number,
-        replicas: Replicas::new(list),
+        replicas: Replicas::of(alloc, exec.list_by(place, task))?,
         adding,
         removing,
     })
@@ -145,7 +143,9 @@ pub fn cluster_shown(
     exec: &Exec,
 ) -> Result<Shown, Memory>
     requires { length exec.now.base ≡ length file.now.cluster.parts }
-    ensures { IfOk result (λ s. s ≡ Shown.ClusterState (lost_ids case.now) (parts_shown file.now.cluster.parts exec.now)) }
+    ensures { IfOk result
+        (λ s. s
+        ≡ Shown.ClusterState (lost_ids case.now) (parts_shown file.now.cluster.parts exec.now)) }
 {
     let lost = lost_ids(alloc, case)?;
     let parts = parts_shown(alloc, file.case().parts(), exec)?;

@@ -26,7 +26,7 @@ use Rattle.core_terms.specs.Works.{ended_job, ends_execution, execution_ended, m
 use Rattle.core_terms.specs.Sound.{BeginsWithEvacuation, IsJob}
 use Rattle.core_terms.specs.declared.jobs.Job.{Job}
 use Rattle.core_terms.specs.declared.replies.Reply.{Reply}
-use Rattle.core_laws.proofs.Changes.{proposals_all}
+use Rattle.exec_terms.proofs.Changes.{proposals_all}
 use Rattle.core_laws.proofs.Tickets.{other_or_here, found, place_waiting}
 
 -- each job is one of the cluster's

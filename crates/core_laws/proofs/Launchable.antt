@@ -29,7 +29,7 @@ use Rattle.core_terms.specs.Plans.{is_plan_for, problem_at, problem_of_plan}
 use Rattle.core_terms.specs.Sound.{IsSound, BeginsWithEvacuation}
 use Rattle.core_terms.proofs.Sameness.{sameness_is_equality}
 use Rattle.core_laws.proofs.Brokers.{ids, leads-has, member, is_known-has}
-use Rattle.core_laws.proofs.Changes.{proposals_all, few_proposals, one_each}
+use Rattle.exec_terms.proofs.Changes.{proposals_all, few_proposals, one_each}
 use Rattle.core_laws.proofs.Clusters.{SameShape, known_lists_same, shape_case, died_is_lost}
 use Rattle.core_laws.proofs.Evacuated.{plan_evacuated}
 

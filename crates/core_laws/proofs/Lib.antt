@@ -7,7 +7,6 @@ pub mod Events
 pub mod Valid
 pub mod Tickets
 pub mod Plans
-pub mod Changes
 pub mod Brokers
 pub mod Evacuated
 pub mod Clusters

@@ -33,7 +33,7 @@ use Rattle.core_laws.proofs.Jobs.{absent, holder_active}
 use Rattle.core_laws.proofs.JobsKept.{AreJobs, jobs_submitted, jobs_taken, jobs_back, jobs_refused, jobs_planned, jobs_moved}
 use Rattle.core_laws.proofs.Launchable.{plan_launches, shape_is}
 use Rattle.core_laws.proofs.Clusters.{belongs_same}
-use Rattle.core_laws.proofs.Changes.{proposals_all}
+use Rattle.exec_terms.proofs.Changes.{proposals_all}
 use Rattle.core_laws.proofs.Plans.{plans_meet_no_execution}
 use Rattle.core_laws.proofs.Settled.{settled_belongs}
 use Rattle.core_laws.proofs.Tickets.{events_keep_tickets}

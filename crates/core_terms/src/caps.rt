@@ -19,7 +19,8 @@ impl Model for CapChange {
 
     ghost view = { λ c. record { broker = c.broker; cluster = c.cluster; leader = c.leader } };
 
-    ghost invariant = { λ c. IsCapChange (record { broker = c.broker; cluster = c.cluster; leader = c.leader }) };
+    ghost invariant = { λ c. IsCapChange
+        (record { broker = c.broker; cluster = c.cluster; leader = c.leader }) };
 }
 
 impl CapChange {

@@ -1,10 +1,10 @@
 // What the core answers.
 use crate::problem::Problem;
 use crate::shows::Shown;
-use exec_terms::{Caps, Given, Killed, Phase, Stopped};
+use exec_terms::{Given, Killed, Phase, Stopped};
 use goal_set::{GoalFault, GoalKind};
-use plan_terms::{Replicas, Topic};
-use user_tasks::{ListOf, Status};
+use plan_terms::{Caps, ListOf, Replicas, Topic};
+use user_tasks::Status;
 use uuid::Uuid;
 
 /// Why there is no work.

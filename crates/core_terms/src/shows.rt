@@ -1,7 +1,7 @@
 // What is shown of the core's state.
 use exec_terms::PhaseCounts;
-use plan_terms::{BrokerState, Replicas, Topic};
-use user_tasks::{ListOf, Op, Status};
+use plan_terms::{BrokerState, ListOf, Replicas, Topic};
+use user_tasks::{Op, Status};
 use uuid::Uuid;
 
 /// What the executor does.

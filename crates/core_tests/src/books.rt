@@ -1,14 +1,16 @@
 // Runs of a book, written as steps and what each is answered. Where a call fails the tests panic, in place of `?`, so that a book is
 // dropped at one place alone: the proof of each drop is long.
 use cluster_gate::{FailingAdmin, MemoryCluster, MemoryCopier, copy_chunk};
-use cluster_json::read_cluster;
 use control_core::Book;
 use core_terms::{Event, Problem, Reply};
 use exec_terms::{Given, Work};
 use goal_optimizer::optimise;
+use plan_terms::ListOf;
 use std::alloc::{AllocError, Global};
 use std::process::Abort;
-use user_tasks::{Ask, ListOf, Op};
+use std::thread::Threads;
+use test_clusters::cluster;
+use user_tasks::{Ask, Op};
 
 const TWO: &str =
     r#"{"version":1,"brokers":[{"id":0},{"id":1}],"partitions":[{"topic":"t","partition":0,"replicas":[0]}],"config":{"min.valid.partition.ratio":"0"}}"#;
@@ -47,9 +49,7 @@ struct Run {
 
 // A book whose admin fails at the calls with these numbers, the first being 1.
 fn run_of(rt: &impl Abort, alloc: Global, text: &str, failing: &[u64]) -> Run {
-    let Ok(file) = read_cluster(alloc, text.as_bytes()) else {
-        panic!(rt; "no cluster");
-    };
+    let file = cluster(alloc, text).expect(rt, "cluster");
     let failing = failing.to_vec(alloc).expect(rt, "memory");
     let admin = FailingAdmin::new(MemoryCluster::new(alloc), failing);
     let Ok(book) = Book::begin(alloc, file, admin) else {
@@ -75,12 +75,12 @@ fn ask(rt: &impl Abort, alloc: Global, op: Op, brokers: &[u32], dryrun: bool) ->
     Event::Submit(ask, None)
 }
 
-fn plan(rt: &impl Abort, alloc: Global, job: Option<(u64, Problem)>) -> Event {
+fn plan<R: Threads + Sync + Abort>(rt: &R, alloc: Global, job: Option<(u64, Problem)>) -> Event {
     let Some((ticket, problem)) = job else {
         panic!(rt; "no job");
     };
     let (case, start, goals) = problem.into_parts();
-    let Ok(plan) = optimise(alloc, &case, &start, &goals) else {
+    let Ok(plan) = optimise(rt, alloc, &case, &start, &goals) else {
         panic!(rt; "no plan");
     };
     Event::Planned(ticket, plan)
@@ -100,7 +100,7 @@ fn copy(rt: &impl Abort, copier: &mut MemoryCopier, work: Option<Given>) -> Even
 }
 
 impl Run {
-    fn event(&mut self, rt: &impl Abort, alloc: Global, step: Step) -> Event {
+    fn event<R: Threads + Sync + Abort>(&mut self, rt: &R, alloc: Global, step: Step) -> Event {
         match step {
             Step::Remove => ask(rt, alloc, Op::RemoveBroker, &[0], false),
             Step::Rebalance { dry } => ask(rt, alloc, Op::Rebalance, &[], dry),
@@ -133,7 +133,7 @@ impl Run {
         }
     }
 
-    fn step(&mut self, rt: &impl Abort, alloc: Global, step: Step) -> String {
+    fn step<R: Threads + Sync + Abort>(&mut self, rt: &R, alloc: Global, step: Step) -> String {
         let event = self.event(rt, alloc, step);
         self.answer(alloc, event).expect(rt, "memory")
     }
@@ -163,8 +163,8 @@ fn told(alloc: Global, reply: &Reply) -> Result<String, AllocError> {
 }
 
 // Takes steps, each of which has its answer, on a book of its own, whose admin fails at these calls; then the partition has this list.
-fn run_rows(
-    rt: &impl Abort,
+fn run_rows<R: Threads + Sync + Abort>(
+    rt: &R,
     alloc: Global,
     text: &str,
     failing: &[u64],

@@ -2,17 +2,17 @@
 // alone: the proof of each drop is long.
 ghost use Rattle.std.specs.Prelude.{◌≡◌, length};
 
-use cluster_json::read_cluster;
 use core_cases::{
     OpenFile, case_of, cluster_shown, goals_of, load_shown, present, tasks_shown, windows_of,
 };
 use core_terms::Shown;
 use executor_core::{Exec, opened};
 use load_model::Case;
-use plan_terms::{BrokerState, Topic};
+use plan_terms::{BrokerState, ListOf, Topic};
 use std::alloc::Global;
 use std::process::Abort;
-use user_tasks::{Ask, ListOf, Op, Status, UserTask};
+use test_clusters::cluster;
+use user_tasks::{Ask, Op, Status, UserTask};
 
 // The file's own load of the first partition, a sample of the second, and none of the third.
 const FILE: &str =
@@ -56,9 +56,7 @@ fn expect_case(rt: &impl Abort, case: &Case) {
 
 // The file, opened.
 fn opened_file(rt: &impl Abort, alloc: Global) -> OpenFile {
-    let Ok(file) = read_cluster(alloc, FILE.as_bytes()) else {
-        panic!(rt; "no cluster");
-    };
+    let file = cluster(alloc, FILE).expect(rt, "cluster");
     OpenFile::new(alloc, file).expect(rt, "memory")
 }
 

@@ -1,5 +1,6 @@
 // The distribution goals by name.
 ghost use Rattle.goal_terms.specs.Goals.{replica_distribution_goal, topic_distribution_goal, usage_distribution_goal};
+ghost use Rattle.plan_terms.specs.Resources.{CPU, NW_IN, NW_OUT, DISK};
 ghost use Rattle.std.specs.Prelude.{◌≡◌};
 
 use crate::topic::TopicReplicaDistributionGoal;
@@ -35,10 +36,16 @@ pub type CpuUsageDistributionGoal = BrokerGoal<Load<Cpu>, NearUse<Cpu>, Soft>;
 
 /// What the goals mean for a cluster, by the thresholds of its options.
 pub fn meanings()
-    ensures replicas { ⟦<ReplicaDistributionGoal as Goal>⟧.meaning ≡ λ _ c. replica_distribution_goal c }
-    ensures topics { ⟦<TopicReplicaDistributionGoal as Goal>⟧.meaning ≡ λ _ c. topic_distribution_goal c }
-    ensures cpu { ⟦<CpuUsageDistributionGoal as Goal>⟧.meaning ≡ λ _ c. usage_distribution_goal 0 c }
-    ensures inbound { ⟦<NetworkInboundUsageDistributionGoal as Goal>⟧.meaning ≡ λ _ c. usage_distribution_goal 1 c }
-    ensures outbound { ⟦<NetworkOutboundUsageDistributionGoal as Goal>⟧.meaning ≡ λ _ c. usage_distribution_goal 2 c }
-    ensures disk { ⟦<DiskUsageDistributionGoal as Goal>⟧.meaning ≡ λ _ c. usage_distribution_goal 3 c }
+    ensures replicas { ⟦<ReplicaDistributionGoal as Goal>⟧.meaning
+        ≡ λ _ c. replica_distribution_goal c }
+    ensures topics { ⟦<TopicReplicaDistributionGoal as Goal>⟧.meaning
+        ≡ λ _ c. topic_distribution_goal c }
+    ensures cpu { ⟦<CpuUsageDistributionGoal as Goal>⟧.meaning
+        ≡ λ _ c. usage_distribution_goal CPU c }
+    ensures inbound { ⟦<NetworkInboundUsageDistributionGoal as Goal>⟧.meaning
+        ≡ λ _ c. usage_distribution_goal NW_IN c }
+    ensures outbound { ⟦<NetworkOutboundUsageDistributionGoal as Goal>⟧.meaning
+        ≡ λ _ c. usage_distribution_goal NW_OUT c }
+    ensures disk { ⟦<DiskUsageDistributionGoal as Goal>⟧.meaning
+        ≡ λ _ c. usage_distribution_goal DISK c }
 {}

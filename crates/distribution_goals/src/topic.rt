@@ -2,14 +2,14 @@
 ghost use Rattle.goal_terms.specs.Bands.{units_of, even};
 ghost use Rattle.goal_terms.specs.Heats.{heat_at_id};
 ghost use Rattle.goal_terms.specs.Limits.{SmallLoads, SmallWeights};
-ghost use Rattle.goal_terms.specs.PerBroker.{id_at, unit_brokers, broker_excess, per_broker};
+ghost use Rattle.goal_terms.specs.PerBroker.{unit_brokers, broker_excess, per_broker};
 ghost use Rattle.goal_terms.specs.PerTopic.{topic_excesses, per_topic, first_topic, replica_rule, second_topic, topic_heat};
 ghost use Rattle.goal_terms.specs.Quantity.{weight_of, quantity, topic_weights};
 ghost use Rattle.goal_terms.specs.Rooms.{free};
 ghost use Rattle.goal_terms.specs.Sides.{excess_with};
 ghost use Rattle.load_model.specs.Places.{topic_at};
 ghost use Rattle.plan_terms.specs.Belongs.{IsBookOf};
-ghost use Rattle.plan_terms.specs.Cluster.{Cluster};
+ghost use Rattle.plan_terms.specs.Cluster.{Cluster, id_at};
 ghost use Rattle.plan_terms.specs.Faults.{topics};
 ghost use Rattle.plan_terms.specs.Fits.{fits};
 ghost use Rattle.plan_terms.specs.Goal.{Accepts, Lessens};
@@ -20,9 +20,10 @@ use broker_goals::{
     Amount, Balance, Band, Even, NewBand, amount_at, excess_at_place, first_topic_place,
     second_topic_place, sides_of, topics_of, total_of, unit_count, unit_excess, unit_place,
 };
-use load_model::{Case, LoadBook, Memory, Options, Part, Ratio, Topic};
-use move_actions::{Goal, Heat, Room};
-use plan_terms::Action;
+use goal_terms::{Heat, Room};
+use load_model::{Case, LoadBook};
+use move_actions::Goal;
+use plan_terms::{Action, Memory, Options, Part, Ratio, Topic};
 use std::alloc::Global;
 
 /// The threshold for the replicas of a topic.
@@ -49,7 +50,8 @@ impl<'t> Amount for TopicReplicas<'t> {
 
     ghost weights = { λ q. topic_weights q.name.now };
 
-    ghost made_for = { λ q c. (q.place < length (topics c.parts)) × (topic_at c.parts q.place ≡ q.name.now) };
+    ghost made_for = { λ q c. (q.place < length (topics c.parts))
+        × (topic_at c.parts q.place ≡ q.name.now) };
 
     #[tactic(auto, using(plan_terms::proofs::SameLemmas::brokers_same, plan_terms::proofs::SameLemmas::topics_same))]
     fn amount(&self, _case: &Case, book: &LoadBook, broker: usize) -> u128 {
@@ -79,7 +81,9 @@ pub struct TopicReplicaDistributionGoal {
 impl TopicReplicaDistributionGoal {
     /// The goal for the case.
     pub fn new(alloc: Global, case: &Case) -> Result<Self, Memory>
-        ensures { IfOk result (λ goal. ⟦<Even<TopicBalance> as Band>⟧.made_for goal.band case.now × (goal.topics.items ≡ topics case.now.parts)) }
+        ensures { IfOk result
+            (λ goal. ⟦<Even<TopicBalance> as Band>⟧.made_for goal.band case.now
+            × (goal.topics.items ≡ topics case.now.parts)) }
     {
         Ok(TopicReplicaDistributionGoal {
             band: Even::new(case),
@@ -112,7 +116,11 @@ fn topic_accepts(
     requires band { ⟦<Even<TopicBalance> as Band>⟧.made_for band.now case.now }
     requires belongs { IsBookOf case.now book.now }
     requires applies { IsTrue (fits book.now.lists action) }
-    ensures { IsTrue result ↔ Accepts (per_broker true (topic_weights kind.now.name.now) (even case.now.options.topic_balance (units_of case.now)) case.now) book.now.lists action }
+    ensures { IsTrue result
+        ↔ Accepts
+        (per_broker true (topic_weights kind.now.name.now)
+        (even case.now.options.topic_balance (units_of case.now)) case.now) book.now.lists
+        action }
 {
     let _brokers = case.brokers();
     let sides = sides_of(kind, band, case, book, action);
@@ -131,7 +139,13 @@ fn is_uneven(
     requires band { ⟦<Even<TopicBalance> as Band>⟧.made_for band.now case.now }
     requires belongs { IsBookOf case.now book.now }
     requires broker { broker < length case.now.brokers }
-    ensures { result ≡ nat_lt 0 (excess_with (topic_weights kind.now.name.now) (even case.now.options.topic_balance (units_of case.now)) case.now book.now.lists (id_at case.now.brokers broker) (quantity (topic_weights kind.now.name.now) case.now.parts (id_at case.now.brokers broker) book.now.lists)) }
+    ensures { result
+        ≡ nat_lt 0
+        (excess_with (topic_weights kind.now.name.now)
+        (even case.now.options.topic_balance (units_of case.now)) case.now book.now.lists
+        (id_at case.now.brokers broker)
+        (quantity (topic_weights kind.now.name.now) case.now.parts
+        (id_at case.now.brokers broker) book.now.lists)) }
 {
     let all = total_of(kind, case, book);
     let amount = amount_at(kind, case, book, broker);
@@ -143,11 +157,14 @@ impl Goal for TopicReplicaDistributionGoal {
     ghost use Rattle.goal_terms.proofs.PairLemmas.{stirred-still_parts};
     ghost use Rattle.goal_terms.proofs.TopicGoalLemmas.{topic-fits_120_bits, topic-cold_pairs};
 
-    ghost meaning = { λ _ c. per_topic false (replica_rule (even c.options.topic_balance (units_of c))) c };
+    ghost meaning = { λ _ c. per_topic false
+        (replica_rule (even c.options.topic_balance (units_of c))) c };
 
-    ghost made_for = { λ g c. ⟦<Even<TopicBalance> as Band>⟧.made_for g.band c × (g.topics.items ≡ topics c.parts) };
+    ghost made_for = { λ g c. ⟦<Even<TopicBalance> as Band>⟧.made_for g.band c
+        × (g.topics.items ≡ topics c.parts) };
 
-    ghost heat_at = { λ _ c lists k. topic_heat (topics c.parts) (replica_rule (even c.options.topic_balance (units_of c))) c lists k };
+    ghost heat_at = { λ _ c lists k. topic_heat (topics c.parts)
+        (replica_rule (even c.options.topic_balance (units_of c))) c lists k };
 
     ghost stirs_at = { λ _ _ _ _. true };
 
@@ -223,11 +240,15 @@ impl Goal for TopicReplicaDistributionGoal {
         None
     }
 
-    ghost small = { λ _ c lists made is_case fits. topic-fits_120_bits false c.options.topic_balance c lists made.0.0.small (Limits-case c is_case) fits };
+    ghost small = { λ _ c lists made is_case fits. topic-fits_120_bits false c.options.topic_balance
+        c lists made.0.0.small (Limits-case c is_case) fits };
 
-    ghost cold_pairs = { λ _ c lists _ is_case fits. topic-cold_pairs false (replica_rule (even c.options.topic_balance (units_of c))) c lists (Limits-case c is_case) fits };
+    ghost cold_pairs = { λ _ c lists _ is_case fits. topic-cold_pairs false
+        (replica_rule (even c.options.topic_balance (units_of c))) c lists (Limits-case c is_case)
+        fits };
 
-    ghost still_parts = { λ _ c lists _ _ _. stirred-still_parts (per_topic false (replica_rule (even c.options.topic_balance (units_of c))) c) lists };
+    ghost still_parts = { λ _ c lists _ _ _. stirred-still_parts
+        (per_topic false (replica_rule (even c.options.topic_balance (units_of c))) c) lists };
 
     ghost idle_trades = { λ _ _ _ _ _ _. tt };
 

@@ -2,6 +2,7 @@ pub mod Begin
 pub mod Calls
 pub mod Calm
 pub mod CapLaws
+pub mod Changes
 pub mod Copies
 pub mod Counts
 pub mod Events

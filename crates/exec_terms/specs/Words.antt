@@ -1,7 +1,6 @@
 -- One movement of replicas: its phases, its copies, its lists.
 use Rattle.std.specs.Prelude.{ℕ, ◌-◌, Bool, true, false, not, ◌==◌, ◌&&◌, ◌||◌, List, [], ◌∷◌, ◌++◌, length, Option, Some, None, slice_get, zero, suc}
-use Rattle.std.specs.List.{list_any}
-use Rattle.plan_terms.specs.Change.{added, union}
+use Rattle.plan_terms.specs.Change.{added, differ, gains, union}
 use Rattle.plan_terms.specs.Cluster.{has, leads}
 use Rattle.exec_terms.specs.declared.phase.Phase.{Phase}
 use Rattle.exec_terms.specs.declared.phase.Phase.TheVariants.{Pending, InProgress, Aborting, Aborted, Completed, Dead}
@@ -89,15 +88,15 @@ goes_on p = is_pending p || is_in_progress p
 
 -- the new list adds the broker
 abbrev pub adds : Task → ℕ → Bool
-adds t b = has t.after b && not (has t.before b)
+adds t b = gains t.before t.after b
 
 -- the new list leaves the broker out
 abbrev pub removes : Task → ℕ → Bool
-removes t b = has t.before b && not (has t.after b)
+removes t b = gains t.after t.before b
 
 -- the two lists differ as sets; another task changes the leader or the order alone
 abbrev pub is_replica_task : Task → Bool
-is_replica_task t = list_any (λ b. not (has t.before b)) t.after || list_any (λ b. not (has t.after b)) t.before
+is_replica_task t = differ t.before t.after
 
 -- the list of the partition, by the phase of its task
 abbrev pub list_in : Phase → List ℕ → List ℕ → List ℕ

@@ -4,15 +4,16 @@
 
 mod brokers;
 mod laws;
+mod lists;
 mod phase;
 mod replies;
 mod tally;
 mod task;
-mod words;
 mod work;
 
 pub use brokers::Host;
 pub use laws::every_execution;
+pub use lists::{differs, union};
 pub use phase::Phase;
 pub use plan_terms::Caps;
 pub use replies::{
@@ -20,5 +21,4 @@ pub use replies::{
 };
 pub use tally::{PhaseCounts, leases_out, phase_counts};
 pub use task::Task;
-pub use words::{differs, has, leads, union};
 pub use work::{Lease, Work, WorkKind};

@@ -5,9 +5,9 @@ ghost use Rattle.exec_terms.specs.Machine.{with_lease};
 ghost use Rattle.exec_terms.specs.Leases.{released, one_copied, one_failed, committed, cancelled};
 ghost use Rattle.exec_terms.specs.Stops.{stopped_by, killed_by};
 
-use crate::words::{added_count, differs, has, leads, step_of};
+use crate::lists::{added_count, differs, step_of};
 use crate::{Lease, Phase, Work, WorkKind};
-use plan_terms::Replicas;
+use plan_terms::{Replicas, has, leads};
 
 /// A partition whose replica list is being changed.
 #[derive(Drop)]

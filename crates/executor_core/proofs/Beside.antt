@@ -14,7 +14,8 @@ use Rattle.exec_terms.specs.Words.{in_flight, is_pending, union_of}
 use Rattle.exec_terms.specs.Machine.{State}
 use Rattle.exec_terms.specs.Stops.{is_host, marked}
 use Rattle.exec_terms.proofs.Calm.{SameLists}
-use Rattle.cap_ledger.specs.Ledger.{Ledger, knows, gains, differ, HasRoom, IsCounted, IsKnownList, Enters}
+use Rattle.plan_terms.specs.Change.{gains, differ}
+use Rattle.cap_ledger.specs.Ledger.{Ledger, knows, HasRoom, IsCounted, IsKnownList, Enters}
 use Rattle.task_planner.specs.declared.slot.Slot.{Slot}
 use Rattle.task_index.specs.Index.{Marks}
 use Rattle.task_planner.specs.Queue.{IsListOf, AreListsOf}

@@ -11,7 +11,7 @@ use Rattle.plan_terms.specs.Faults.{IsCase, case_fault, broker_repeat, first_rep
 use Rattle.plan_terms.specs.Legal.{is_lost}
 use Rattle.plan_terms.specs.States.{is_dead}
 use Rattle.plan_terms.specs.declared.cluster.Broker.{Broker}
-use Rattle.plan_terms.proofs.FaultLemmas.{first_of-None}
+use Rattle.plan_terms.proofs.FaultLemmas.{option_or-None}
 
 -- the ids of brokers, and of those that are lost
 abbrev pub ids : List Broker → List ℕ
@@ -72,7 +72,7 @@ option_map-None f (Some x) h = absurd cc
 
 pub ids_once : (c : Cluster) → IsCase c → distinct (ids c.brokers) ≡ true
 unfolding case_fault broker_repeat
-ids_once c i = once_from [] c.brokers 0 (option_map-None _ (first_repeat same_id c.brokers) (first_of-None (broker_repeat c.brokers) _ (first_of-None _ _ i.faultless).1).0)
+ids_once c i = once_from [] c.brokers 0 (option_map-None _ (first_repeat same_id c.brokers) (option_or-None (broker_repeat c.brokers) _ (option_or-None _ _ i.faultless).1).0)
 
 -- the ids of the lost brokers are ids of brokers
 all_has : (q : ℕ → Bool) (xs : List ℕ) → ((b : ℕ) → has xs b ≡ true → q b ≡ true) → list_all q xs ≡ true

@@ -21,7 +21,7 @@ use Rattle.exec_terms.proofs.Gives.{take_gives, none_any}
 use Rattle.exec_terms.proofs.Launch.{length-each_below, get_or-each_below}
 use Rattle.exec_terms.proofs.WorkLeft.{position-None}
 use Rattle.executor_core.specs.Alone.{proposal_of, IsAtRest, IsBetweenRounds}
-use Rattle.executor_core.proofs.Changes.{all_lead, unchanged}
+use Rattle.exec_terms.proofs.Changes.{all_lead, unchanged}
 
 first_none : {X : Type 0} (p : X → Bool) (xs : List X) (d : X) → list_any p xs ≡ false → position p xs ≡ None
 first_none p xs d h = by (position p xs) refl where

@@ -21,7 +21,8 @@ use Rattle.exec_terms.specs.Stops.{is_host}
 use Rattle.exec_terms.specs.Runs.{CanLaunch, hosts_of}
 use Rattle.exec_terms.proofs.Launch.{length-each_below, get_or-each_below, all_pending, IsValid-new}
 use Rattle.exec_terms.proofs.WorkLeft.{position-None}
-use Rattle.cap_ledger.specs.Ledger.{Ledger, gains, differ, IsEmpty}
+use Rattle.plan_terms.specs.Change.{gains, differ}
+use Rattle.cap_ledger.specs.Ledger.{Ledger, IsEmpty}
 use Rattle.task_planner.specs.declared.slot.Slot.{Slot}
 use Rattle.task_index.specs.Index.{Marks, marks_of, no_marks}
 use Rattle.task_planner.specs.Queue.{IsListOf, AreListsOf, waiting}

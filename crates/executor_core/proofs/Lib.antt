@@ -2,11 +2,10 @@ pub mod Admitted
 pub mod Beside
 pub mod Brokers
 pub mod Calls
-pub mod Changes
 pub mod Drained
 pub mod Fitting
 pub mod Flying
-pub mod Launched
+pub mod Begun
 pub mod Launching
 pub mod Marked
 pub mod Places

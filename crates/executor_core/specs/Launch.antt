@@ -7,7 +7,7 @@ use Rattle.plan_terms.specs.declared.lists.Proposal.{Proposal}
 use Rattle.exec_terms.specs.declared.brokers.Host.{Host}
 use Rattle.exec_terms.specs.Machine.{State, list_now}
 use Rattle.exec_terms.specs.Stops.{is_host}
-use Rattle.cap_ledger.specs.Ledger.{gains, differ}
+use Rattle.plan_terms.specs.Change.{gains, differ}
 
 -- 1 to 8 distinct members
 abbrev pub is_replica_list : List ℕ → Bool

@@ -6,8 +6,8 @@ ghost use Rattle.exec_terms.specs.Stops.{is_host};
 ghost use Rattle.executor_core.specs.Launch.{PartsRise, have_distinct_parts, is_replica_list, needs_between, needs_no_dead};
 
 use crate::scan::is_host;
-use exec_terms::{Host, differs, has, leads};
-use plan_terms::Proposal;
+use exec_terms::{Host, differs};
+use plan_terms::{Proposal, has, leads};
 
 // Whether no member stands twice.
 fn is_distinct(list: &[u32]) -> bool

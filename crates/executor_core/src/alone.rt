@@ -11,10 +11,9 @@ ghost use Rattle.exec_terms.specs.Runs.{CanLaunch, opening};
 ghost use Rattle.executor_core.specs.Alone.{proposal_of, IsBetweenRounds, IsOut, after_report};
 
 use crate::Exec;
-use cap_ledger::Caps;
 use exec_terms::{Given, LaunchFault, Phase, Work};
-use load_model::{Assign, Broker, Case, Part};
-use plan_terms::{Memory, Proposal, Replicas};
+use load_model::{Assign, Case};
+use plan_terms::{Broker, Caps, Memory, Part, Proposal, Replicas};
 use proposal_set::proposals;
 use std::alloc::Global;
 
@@ -42,7 +41,8 @@ fn broker_ids(alloc: Global, brokers: &[Broker]) -> Result<Vec<u32>, Memory>
 
 // The ids of the brokers that are lost.
 fn dead_ids(alloc: Global, brokers: &[Broker]) -> Result<Vec<u32>, Memory>
-    ensures { IfOk result (λ ids. ids.items ≡ map (λ b. b.id) (filter (λ b. is_dead b.state) brokers.now)) }
+    ensures { IfOk result
+        (λ ids. ids.items ≡ map (λ b. b.id) (filter (λ b. is_dead b.state) brokers.now)) }
 {
     let mut ids = Vec::new(alloc);
     for broker in brokers {
@@ -82,21 +82,11 @@ pub fn opened(alloc: Global, case: &Case, caps: Caps, lists: &Assign) -> Result<
     Exec::new(alloc, lists, &chunks, caps, &brokers, &dead)
 }
 
-// Whether the broker is lost.
-fn is_lost(case: &Case, broker: u32) -> bool
-    ensures { result ≡ is_lost case.now broker }
-{
-    match case.broker(broker) {
-        None => false,
-        Some(broker) => broker.state.is_dead(),
-    }
-}
-
 // Whether a member of the list is lost.
 fn any_lost(case: &Case, list: &[u32]) -> bool
     ensures { result ≡ list_any (is_lost case.now) list.now }
 {
-    list.iter().any(|b| is_lost(case, *b))
+    list.iter().any(|b| case.is_lost(*b))
 }
 
 // Whether no member of any of the lists is lost.
@@ -127,7 +117,9 @@ pub fn launched(
     requires before { Belongs case.now before.now }
     requires after { Belongs case.now after.now }
     requires no_lost { All (λ list. list_any (is_lost case.now) list ≡ false) after.now }
-    ensures { IfOk result (IsBetweenRounds before.now (proposals before.now after.now) caps (opening case.now before.now caps).hosts) }
+    ensures { IfOk result
+        (IsBetweenRounds before.now (proposals before.now after.now) caps
+        (opening case.now before.now caps).hosts) }
 {
     let mut exec = opened(alloc, case, caps, before)?;
     let changes = proposals(alloc, before, after)?;
@@ -157,8 +149,10 @@ fn report(exec: &mut Exec, given: Given)
 
 // Takes work and reports it done, until nothing is left.
 fn drain(exec: &mut Exec)
-    requires { IsBetweenRounds exec.old.base (map proposal_of exec.old.tasks) exec.old.caps exec.old.hosts exec.old }
-    ensures rounds { IsBetweenRounds exec.old.base (map proposal_of exec.old.tasks) exec.old.caps exec.old.hosts exec.new }
+    requires { IsBetweenRounds exec.old.base (map proposal_of exec.old.tasks) exec.old.caps
+        exec.old.hosts exec.old }
+    ensures rounds { IsBetweenRounds exec.old.base (map proposal_of exec.old.tasks) exec.old.caps
+        exec.old.hosts exec.new }
     ensures drained { first_unfinished exec.new ≡ None }
 {
     while let Ok(given) = exec.take() {
@@ -184,7 +178,8 @@ pub fn carry_out(
     ensures drained { IfOk result (λ exec. first_unfinished exec ≡ None) }
     ensures lists { IfOk result (λ exec. lists_now exec ≡ after.now) }
     ensures base { IfOk result (λ exec. exec.base ≡ before.now) }
-    ensures tasks { IfOk result (λ exec. map proposal_of exec.tasks ≡ proposals before.now after.now) }
+    ensures tasks { IfOk result
+        (λ exec. map proposal_of exec.tasks ≡ proposals before.now after.now) }
     ensures caps { IfOk result (λ exec. exec.caps ≡ caps) }
     ensures hosts { IfOk result (λ exec. exec.hosts ≡ (opening case.now before.now caps).hosts) }
     ensures completed { IfOk result (λ exec. All (λ t. t.phase ≡ Phase.Completed) exec.tasks) }

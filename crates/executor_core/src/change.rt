@@ -8,8 +8,8 @@ ghost use Rattle.task_planner.specs.Queue.{slot_at, ended};
 ghost use Rattle.executor_core.specs.Kept.{slot_of};
 
 use crate::scan::waits_for;
-use exec_terms::{Host, Phase, Task, has, union};
-use plan_terms::{Memory, Proposal, Replicas};
+use exec_terms::{Host, Phase, Task, union};
+use plan_terms::{Memory, Proposal, Replicas, has};
 use std::alloc::Global;
 use task_planner::TaskQueue;
 
@@ -131,7 +131,8 @@ fn drop_if(queue: &mut TaskQueue, task: usize, ends: bool)
     requires small { task < 2 ^ 32 }
     requires known { task < length queue.old }
     requires waits { ends ≡ true → (slot_at queue.old task).waits ≡ true }
-    ensures { queue.new ≡ (if ends then slice_set queue.old task (ended (slot_at queue.old task)) else queue.old) }
+    ensures { queue.new
+        ≡ (if ends then slice_set queue.old task (ended (slot_at queue.old task)) else queue.old) }
 {
     if ends {
         queue.remove(task as u32);

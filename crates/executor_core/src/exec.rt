@@ -15,17 +15,14 @@ ghost use Rattle.executor_core.specs.Alone.{proposal_of};
 ghost use Rattle.executor_core.specs.Kept.{AreCounts};
 ghost use Rattle.executor_core.specs.Launch.{fits_launch, may_launch};
 
-#[cfg(test)]
-mod plain;
-
 use crate::{admit, change, scan};
-use cap_ledger::{Caps, Counts};
+use cap_ledger::Counts;
 use exec_terms::{
     Faults, Given, Host, Idle, KillFault, Killed, LaunchFault, LeaseFault, Left, NothingToStop,
     Phase, PhaseCounts, Stopped, Task, Work, WorkKind, leases_out, phase_counts,
 };
 use load_model::Assign;
-use plan_terms::{Memory, Proposal, Replicas};
+use plan_terms::{Caps, Memory, Proposal, Replicas};
 use std::alloc::Global;
 use std::marker::Model;
 use task_index::TaskIndex;
@@ -63,9 +60,27 @@ impl Model for Exec {
 
     ghost Value = { State };
 
-    ghost view = { λ e. record { base = e.base.items; chunks = e.chunks.items; caps = e.caps; hosts = e.hosts.items; tasks = e.tasks.items; stopped = e.stopped; leases = e.leases } };
+    ghost view = { λ e. record {
+      base = e.base.items;
+      chunks = e.chunks.items;
+      caps = e.caps;
+      hosts = e.hosts.items;
+      tasks = e.tasks.items;
+      stopped = e.stopped;
+      leases = e.leases;
+    } };
 
-    ghost invariant = { λ e. IsKept (record { base = e.base.items; chunks = e.chunks.items; caps = e.caps; hosts = e.hosts.items; tasks = e.tasks.items; stopped = e.stopped; leases = e.leases }) e.brokers.items e.unions.items e.proposals.items e.counts e.unfinished e.queue e.index };
+    ghost invariant = { λ e. IsKept
+        (record {
+          base = e.base.items;
+          chunks = e.chunks.items;
+          caps = e.caps;
+          hosts = e.hosts.items;
+          tasks = e.tasks.items;
+          stopped = e.stopped;
+          leases = e.leases;
+        })
+        e.brokers.items e.unions.items e.proposals.items e.counts e.unfinished e.queue e.index };
 }
 
 impl Exec {
@@ -87,7 +102,8 @@ impl Exec {
         requires distinct { IsTrue (distinct brokers.now) }
         requires members { All (λ list. list_all (has brokers.now) list ≡ true) lists.now }
         requires dead { list_all (has brokers.now) dead.now ≡ true }
-        ensures { IfOk result (λ exec. exec ≡ new_state lists.now chunks.now caps (hosts_of brokers.now dead.now)) }
+        ensures { IfOk result
+            (λ exec. exec ≡ new_state lists.now chunks.now caps (hosts_of brokers.now dead.now)) }
     {
         let base = change::copies(alloc, lists.lists())?;
         let none = Vec::new(alloc);
@@ -149,7 +165,8 @@ impl Exec {
 
     // Whether there is such a partition, and the list is the one that it has now.
     fn has_list(&self, part: usize, list: &[u32]) -> bool
-        ensures { result ≡ (nat_lt part (length self.now.base) && bytes_eq list.now (list_now self.now part)) }
+        ensures { result
+            ≡ (nat_lt part (length self.now.base) && bytes_eq list.now (list_now self.now part)) }
     {
         part < self.base.len() && list == self.list_at(part)
     }
@@ -520,7 +537,9 @@ impl Exec {
     /// The place of the task of each partition, where it has one, found in one pass over the tasks.
     pub fn task_places(&self, alloc: Global) -> Result<Vec<Option<u32>>, Memory>
         ensures long { IfOk result (λ places. vec_len places ≡ length self.now.base) }
-        ensures each { IfOk result (λ places. (p : ℕ) → p < length self.now.base → get_or places.items p None ≡ position (is_on p) self.now.tasks) }
+        ensures each { IfOk result
+            (λ places. (p : ℕ) → p < length self.now.base
+            → get_or places.items p None ≡ position (is_on p) self.now.tasks) }
     {
         scan::places_by_part(alloc, self.tasks.as_slice(), self.base.len())
     }
@@ -545,8 +564,7 @@ impl Exec {
         let places = self.task_places(alloc)?;
         let mut lists = Vec::new(alloc);
         for part in 0..self.base.len() {
-            let ids = Vec::from_slice(alloc, self.list_by(part, places[part]))?;
-            lists.push(Replicas::new(ids))?;
+            lists.push(Replicas::of(alloc, self.list_by(part, places[part]))?)?;
         }
         Ok(lists)
     }
@@ -570,8 +588,7 @@ impl Exec {
         let places = self.task_places(alloc)?;
         let mut lists = Vec::new(alloc);
         for part in 0..self.base.len() {
-            let ids = Vec::from_slice(alloc, self.settled_by(part, places[part]))?;
-            lists.push(Replicas::new(ids))?;
+            lists.push(Replicas::of(alloc, self.settled_by(part, places[part]))?)?;
         }
         Ok(lists)
     }
@@ -702,7 +719,14 @@ fn given(tasks: &[Task], leases: u64, task: usize, work: Work, starts: bool) -> 
     requires task { task < length tasks.now }
     requires few { length tasks.now ≤ 10000 }
     requires leases { leases < 2 ^ 63 }
-    ensures { result ≡ record { lease = leases + 1; task = task; part = (task_at tasks.now task).part; work = work; starts = starts } }
+    ensures { result
+        ≡ record {
+          lease = leases + 1;
+          task = task;
+          part = (task_at tasks.now task).part;
+          work = work;
+          starts = starts;
+        } }
 {
     Given {
         lease: leases + 1,
@@ -717,7 +741,9 @@ fn given(tasks: &[Task], leases: u64, task: usize, work: Work, starts: bool) -> 
 fn worth(tasks: &[Task], i: usize, kind: WorkKind) -> Result<u32, LeaseFault>
     requires known { i < length tasks.now }
     requires few { length tasks.now ≤ 10000 }
-    ensures { result ≡ (if is_aborting (task_at tasks.now i).phase && not (is_cancel kind) then Err LeaseFault.AbortAsked else Ok i) }
+    ensures { result
+        ≡ (if is_aborting (task_at tasks.now i).phase && not (is_cancel kind) then Err
+        LeaseFault.AbortAsked else Ok i) }
 {
     if tasks[i].phase.is_aborting() && !kind.is_cancel() {
         Err(LeaseFault::AbortAsked)

@@ -6,10 +6,8 @@ mod alone;
 mod change;
 mod exec;
 mod scan;
-#[cfg(test)]
-mod tests;
 
-pub use alone::{avoids_lost, carry_out, opened};
+pub use alone::{avoids_lost, carry_out, launched, opened};
 pub use exec::Exec;
 
 // the types that the calls speak of

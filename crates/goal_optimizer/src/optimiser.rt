@@ -10,9 +10,11 @@ ghost use Rattle.goal_optimizer.specs.Outcomes.{IsFaultOf, IsOutcome, IsPlanOf};
 use crate::turn::take_turn;
 use candidate_order::Order;
 use goal_set::{AnyGoal, Failure, GoalKind, GoalList, Plan, Trace, Turned, goals_of};
-use load_model::{Assign, Case, LoadBook, Memory};
+use load_model::{Assign, Case, LoadBook};
 use move_actions::{Goal, measure};
+use plan_terms::Memory;
 use std::alloc::{AllocError, AllocFailed, Global};
+use std::thread::Threads;
 
 /// Why there is no plan.
 #[derive(Drop)]
@@ -44,7 +46,8 @@ pub struct Outcome {
 }
 
 // One turn for each goal in order, up to the first hard goal that stays broken.
-fn take_turns(
+fn take_turns<R: Threads + Sync>(
+    rt: &R,
     alloc: Global,
     case: &Case,
     start: &Assign,
@@ -63,7 +66,15 @@ fn take_turns(
     let mut turns = Vec::new(alloc);
     for place in 0..kinds.len() {
         let goal = &goals[place];
-        let actions = take_turn(alloc, case, &mut book, &mut order, &goals[..place], goal)?;
+        let actions = take_turn(
+            rt,
+            alloc,
+            case,
+            &mut book,
+            &mut order,
+            &goals[..place],
+            goal,
+        )?;
         turns.push(Turned {
             goal: kinds[place],
             actions,
@@ -92,7 +103,8 @@ fn take_turns(
 /// the end of its own, or the failure of the first hard goal that was not. In a goal's turn an action is taken only if it is
 /// legal, each goal before accepts it and it lessens the goal; the turn ends where the goal is met or no such action is left.
 /// Each action is the first such one of the list of candidates.
-pub fn optimise(
+pub fn optimise<R: Threads + Sync>(
+    rt: &R,
     alloc: Global,
     case: &Case,
     start: &Assign,
@@ -101,10 +113,12 @@ pub fn optimise(
     requires { Belongs case.now start.now }
     ensures plan { IfOk result (IsPlanOf case.now start.now goals.now) }
     ensures fault { IfErr result (IsFaultOf case.now start.now goals.now) }
-    ensures firsts { MatchResult result (λ p. TakesFirsts case.now start.now goals.now p.trace.turns.items) (FaultTakesFirsts case.now start.now goals.now) }
+    ensures firsts { MatchResult result
+        (λ p. TakesFirsts case.now start.now goals.now p.trace.turns.items)
+        (FaultTakesFirsts case.now start.now goals.now) }
 {
     let made = goals_of(alloc, goals.kinds(), case)?;
-    let outcome = take_turns(alloc, case, start, goals.kinds(), &made)?;
+    let outcome = take_turns(rt, alloc, case, start, goals.kinds(), &made)?;
     let case = outcome.case;
     let start = start.copy(alloc)?;
     let goals = goals.copy(alloc)?;

@@ -8,13 +8,16 @@ ghost use Rattle.plan_terms.specs.Effect.{after_all};
 ghost use Rattle.plan_terms.specs.Trace.{Turn};
 
 use candidate_order::{Order, Scan, next_lessening};
-use load_model::{Case, LoadBook, Memory};
-use move_actions::{Actions, Goal, Moves};
+use load_model::{Case, LoadBook};
+use move_actions::{Goal, Moves};
+use plan_terms::{Actions, Memory};
 use std::alloc::Global;
+use std::thread::Threads;
 
 /// Takes the turn of a goal: one action after another, each the first candidate that the earlier goals accept and that
 /// lessens it, up to lists at which no such action is left. That ends where the goal is met, if not before.
-pub fn take_turn<G: Goal>(
+pub fn take_turn<G: Goal + Sync, R: Threads + Sync>(
+    rt: &R,
     alloc: Global,
     case: &Case,
     book: &mut LoadBook,
@@ -26,8 +29,12 @@ pub fn take_turn<G: Goal>(
     requires made_goal { G.made_for goal.now case.now }
     requires belongs { IsBookOf case.now book.old }
     requires order { IsOrderOf case.now book.old.lists order.old }
-    ensures turn { IfOk result (λ actions. Turn case.now (map (λ g. G.meaning g case.now) earlier.now) (G.meaning goal.now case.now) book.old.lists actions) }
-    ensures firsts { IfOk result (λ actions. FirstSteps case.now (map (λ g. G.meaning g case.now) earlier.now) (G.meaning goal.now case.now) book.old.lists actions) }
+    ensures turn { IfOk result
+        (λ actions. Turn case.now (map (λ g. G.meaning g case.now) earlier.now)
+        (G.meaning goal.now case.now) book.old.lists actions) }
+    ensures firsts { IfOk result
+        (λ actions. FirstSteps case.now (map (λ g. G.meaning g case.now) earlier.now)
+        (G.meaning goal.now case.now) book.old.lists actions) }
     ensures end { IfOk result (λ actions. book.new.lists ≡ after_all actions book.old.lists) }
     ensures belongs { IfOk result (λ actions. IsBookOf case.now book.new) }
     ensures order { IfOk result (λ actions. IsOrderOf case.now book.new.lists order.new) }
@@ -36,7 +43,7 @@ pub fn take_turn<G: Goal>(
     let mut scan = Scan::new(alloc, case, earlier)?;
     let mut actions = Actions::new(alloc);
     'scan: loop {
-        let next = next_lessening(alloc, case, book, order, &mut scan, earlier, goal)?;
+        let next = next_lessening(rt, alloc, case, book, order, &mut scan, earlier, goal)?;
         match next {
             None => return Ok(actions),
             Some(action) => {

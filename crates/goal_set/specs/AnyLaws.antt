@@ -36,6 +36,7 @@ use Rattle.goal_set.specs.declared.any.AnyGoal.{AnyGoal}
 use Rattle.goal_set.specs.declared.any.AnyGoal.TheVariants as any
 use Rattle.goal_set.specs.declared.kinds.GoalKind.{GoalKind}
 use Rattle.goal_set.specs.declared.kinds.GoalKind.TheVariants as kind
+use Rattle.plan_terms.specs.Resources.{CPU, NW_IN, NW_OUT, DISK}
 
 -- the loads and weights are small
 pub replicas : (p : Part) → SmallLoads p → SmallWeights replica_weights p
@@ -71,20 +72,20 @@ any-small (any.Evacuation g) c lists made is_case fits = partition-small true (l
 any-small (any.RackAware g) c lists made is_case fits = partition-small true (rack_excess c) c lists (rack_excess-le c) is_case fits
 any-small (any.MinTopicLeadersPerBroker g) c lists made is_case fits = least-small c lists made.small (Limits-case c is_case)
 any-small (any.ReplicaCapacity g) c lists made is_case fits = broker-small true replica_weights (at_most c.options.max_replicas) c lists replicas (at_most-small c.options.max_replicas) is_case fits
-any-small (any.DiskCapacity g) c lists made is_case fits = broker-small true (load_weights 3) (within_capacity (ratio_at c.options.limit 3) 3) c lists (loads 3) (within_capacity-small (ratio_at c.options.limit 3) 3 made.1.small) is_case fits
-any-small (any.NetworkInboundCapacity g) c lists made is_case fits = broker-small true (load_weights 1) (within_capacity (ratio_at c.options.limit 1) 1) c lists (loads 1) (within_capacity-small (ratio_at c.options.limit 1) 1 made.1.small) is_case fits
-any-small (any.NetworkOutboundCapacity g) c lists made is_case fits = broker-small true (load_weights 2) (within_capacity (ratio_at c.options.limit 2) 2) c lists (loads 2) (within_capacity-small (ratio_at c.options.limit 2) 2 made.1.small) is_case fits
-any-small (any.CpuCapacity g) c lists made is_case fits = broker-small true (load_weights 0) (within_capacity (ratio_at c.options.limit 0) 0) c lists (loads 0) (within_capacity-small (ratio_at c.options.limit 0) 0 made.1.small) is_case fits
+any-small (any.DiskCapacity g) c lists made is_case fits = broker-small true (load_weights DISK) (within_capacity (ratio_at c.options.limit DISK) DISK) c lists (loads 3) (within_capacity-small (ratio_at c.options.limit DISK) DISK made.1.small) is_case fits
+any-small (any.NetworkInboundCapacity g) c lists made is_case fits = broker-small true (load_weights NW_IN) (within_capacity (ratio_at c.options.limit NW_IN) NW_IN) c lists (loads 1) (within_capacity-small (ratio_at c.options.limit NW_IN) NW_IN made.1.small) is_case fits
+any-small (any.NetworkOutboundCapacity g) c lists made is_case fits = broker-small true (load_weights NW_OUT) (within_capacity (ratio_at c.options.limit NW_OUT) NW_OUT) c lists (loads 2) (within_capacity-small (ratio_at c.options.limit NW_OUT) NW_OUT made.1.small) is_case fits
+any-small (any.CpuCapacity g) c lists made is_case fits = broker-small true (load_weights CPU) (within_capacity (ratio_at c.options.limit CPU) CPU) c lists (loads 0) (within_capacity-small (ratio_at c.options.limit CPU) CPU made.1.small) is_case fits
 any-small (any.Demotion g) c lists made is_case fits = partition-small false (demoted_first c) c lists (demoted_first-le c) is_case fits
 any-small (any.ReplicaDistribution g) c lists made is_case fits = broker-small false replica_weights (even c.options.replica_balance (units_of c)) c lists replicas (even-small c.options.replica_balance (units_of c) made.1.0.small) is_case fits
-any-small (any.PotentialNwOut g) c lists made is_case fits = broker-small false potential_out_weights (within_capacity (ratio_at c.options.limit 2) 2) c lists potential (within_capacity-small (ratio_at c.options.limit 2) 2 made.1.small) is_case fits
-any-small (any.DiskUsageDistribution g) c lists made is_case fits = broker-small false (load_weights 3) (near_use (ratio_at c.options.balance 3) 3 (whole_cap 3 c)) c lists (loads 3) (near_use-small (ratio_at c.options.balance 3) 3 c made.1.0.small (Limits-case c is_case)) is_case fits
-any-small (any.NetworkInboundUsageDistribution g) c lists made is_case fits = broker-small false (load_weights 1) (near_use (ratio_at c.options.balance 1) 1 (whole_cap 1 c)) c lists (loads 1) (near_use-small (ratio_at c.options.balance 1) 1 c made.1.0.small (Limits-case c is_case)) is_case fits
-any-small (any.NetworkOutboundUsageDistribution g) c lists made is_case fits = broker-small false (load_weights 2) (near_use (ratio_at c.options.balance 2) 2 (whole_cap 2 c)) c lists (loads 2) (near_use-small (ratio_at c.options.balance 2) 2 c made.1.0.small (Limits-case c is_case)) is_case fits
-any-small (any.CpuUsageDistribution g) c lists made is_case fits = broker-small false (load_weights 0) (near_use (ratio_at c.options.balance 0) 0 (whole_cap 0 c)) c lists (loads 0) (near_use-small (ratio_at c.options.balance 0) 0 c made.1.0.small (Limits-case c is_case)) is_case fits
+any-small (any.PotentialNwOut g) c lists made is_case fits = broker-small false potential_out_weights (within_capacity (ratio_at c.options.limit NW_OUT) NW_OUT) c lists potential (within_capacity-small (ratio_at c.options.limit NW_OUT) NW_OUT made.1.small) is_case fits
+any-small (any.DiskUsageDistribution g) c lists made is_case fits = broker-small false (load_weights DISK) (near_use (ratio_at c.options.balance DISK) DISK (whole_cap DISK c)) c lists (loads 3) (near_use-small (ratio_at c.options.balance DISK) DISK c made.1.0.small (Limits-case c is_case)) is_case fits
+any-small (any.NetworkInboundUsageDistribution g) c lists made is_case fits = broker-small false (load_weights NW_IN) (near_use (ratio_at c.options.balance NW_IN) NW_IN (whole_cap NW_IN c)) c lists (loads 1) (near_use-small (ratio_at c.options.balance NW_IN) NW_IN c made.1.0.small (Limits-case c is_case)) is_case fits
+any-small (any.NetworkOutboundUsageDistribution g) c lists made is_case fits = broker-small false (load_weights NW_OUT) (near_use (ratio_at c.options.balance NW_OUT) NW_OUT (whole_cap NW_OUT c)) c lists (loads 2) (near_use-small (ratio_at c.options.balance NW_OUT) NW_OUT c made.1.0.small (Limits-case c is_case)) is_case fits
+any-small (any.CpuUsageDistribution g) c lists made is_case fits = broker-small false (load_weights CPU) (near_use (ratio_at c.options.balance CPU) CPU (whole_cap CPU c)) c lists (loads 0) (near_use-small (ratio_at c.options.balance CPU) CPU c made.1.0.small (Limits-case c is_case)) is_case fits
 any-small (any.TopicReplicaDistribution g) c lists made is_case fits = topic-fits_120_bits false c.options.topic_balance c lists made.0.0.small (Limits-case c is_case) fits
 any-small (any.LeaderReplicaDistribution g) c lists made is_case fits = broker-small false leader_weights (even c.options.leader_balance (units_of c)) c lists leads (even-small c.options.leader_balance (units_of c) made.1.0.small) is_case fits
-any-small (any.LeaderBytesInDistribution g) c lists made is_case fits = broker-small false leader_in_weights (below_use (ratio_at c.options.balance 1) 1 (whole_cap 1 c)) c lists inbound (below_use-small (ratio_at c.options.balance 1) 1 c made.1.0.small (Limits-case c is_case)) is_case fits
+any-small (any.LeaderBytesInDistribution g) c lists made is_case fits = broker-small false leader_in_weights (below_use (ratio_at c.options.balance NW_IN) NW_IN (whole_cap NW_IN c)) c lists inbound (below_use-small (ratio_at c.options.balance NW_IN) NW_IN c made.1.0.small (Limits-case c is_case)) is_case fits
 
 -- an action of two cold brokers does not lessen it
 pub kind-cold_pairs : (k : GoalKind) (c : Cluster) (lists : Lists) → IsCase c → Belongs c lists → ColdPairs (meaning_of k c) (any_heat k c lists) lists
@@ -92,20 +93,20 @@ kind-cold_pairs kind.Evacuation c lists is_case fits = hot-cold_pairs (per_parti
 kind-cold_pairs kind.RackAware c lists is_case fits = hot-cold_pairs (per_partition true (rack_excess c) c) lists
 kind-cold_pairs kind.MinTopicLeadersPerBroker c lists is_case fits = least-cold_pairs c lists (Limits-case c is_case) fits
 kind-cold_pairs kind.ReplicaCapacity c lists is_case fits = broker-cold_pairs true replica_weights (at_most c.options.max_replicas) c lists (Limits-case c is_case) fits
-kind-cold_pairs kind.DiskCapacity c lists is_case fits = broker-cold_pairs true (load_weights 3) (within_capacity (ratio_at c.options.limit 3) 3) c lists (Limits-case c is_case) fits
-kind-cold_pairs kind.NetworkInboundCapacity c lists is_case fits = broker-cold_pairs true (load_weights 1) (within_capacity (ratio_at c.options.limit 1) 1) c lists (Limits-case c is_case) fits
-kind-cold_pairs kind.NetworkOutboundCapacity c lists is_case fits = broker-cold_pairs true (load_weights 2) (within_capacity (ratio_at c.options.limit 2) 2) c lists (Limits-case c is_case) fits
-kind-cold_pairs kind.CpuCapacity c lists is_case fits = broker-cold_pairs true (load_weights 0) (within_capacity (ratio_at c.options.limit 0) 0) c lists (Limits-case c is_case) fits
+kind-cold_pairs kind.DiskCapacity c lists is_case fits = broker-cold_pairs true (load_weights DISK) (within_capacity (ratio_at c.options.limit DISK) DISK) c lists (Limits-case c is_case) fits
+kind-cold_pairs kind.NetworkInboundCapacity c lists is_case fits = broker-cold_pairs true (load_weights NW_IN) (within_capacity (ratio_at c.options.limit NW_IN) NW_IN) c lists (Limits-case c is_case) fits
+kind-cold_pairs kind.NetworkOutboundCapacity c lists is_case fits = broker-cold_pairs true (load_weights NW_OUT) (within_capacity (ratio_at c.options.limit NW_OUT) NW_OUT) c lists (Limits-case c is_case) fits
+kind-cold_pairs kind.CpuCapacity c lists is_case fits = broker-cold_pairs true (load_weights CPU) (within_capacity (ratio_at c.options.limit CPU) CPU) c lists (Limits-case c is_case) fits
 kind-cold_pairs kind.Demotion c lists is_case fits = hot-cold_pairs (per_partition false (demoted_first c) c) lists
 kind-cold_pairs kind.ReplicaDistribution c lists is_case fits = broker-cold_pairs false replica_weights (even c.options.replica_balance (units_of c)) c lists (Limits-case c is_case) fits
-kind-cold_pairs kind.PotentialNwOut c lists is_case fits = broker-cold_pairs false potential_out_weights (within_capacity (ratio_at c.options.limit 2) 2) c lists (Limits-case c is_case) fits
-kind-cold_pairs kind.DiskUsageDistribution c lists is_case fits = broker-cold_pairs false (load_weights 3) (near_use (ratio_at c.options.balance 3) 3 (whole_cap 3 c)) c lists (Limits-case c is_case) fits
-kind-cold_pairs kind.NetworkInboundUsageDistribution c lists is_case fits = broker-cold_pairs false (load_weights 1) (near_use (ratio_at c.options.balance 1) 1 (whole_cap 1 c)) c lists (Limits-case c is_case) fits
-kind-cold_pairs kind.NetworkOutboundUsageDistribution c lists is_case fits = broker-cold_pairs false (load_weights 2) (near_use (ratio_at c.options.balance 2) 2 (whole_cap 2 c)) c lists (Limits-case c is_case) fits
-kind-cold_pairs kind.CpuUsageDistribution c lists is_case fits = broker-cold_pairs false (load_weights 0) (near_use (ratio_at c.options.balance 0) 0 (whole_cap 0 c)) c lists (Limits-case c is_case) fits
+kind-cold_pairs kind.PotentialNwOut c lists is_case fits = broker-cold_pairs false potential_out_weights (within_capacity (ratio_at c.options.limit NW_OUT) NW_OUT) c lists (Limits-case c is_case) fits
+kind-cold_pairs kind.DiskUsageDistribution c lists is_case fits = broker-cold_pairs false (load_weights DISK) (near_use (ratio_at c.options.balance DISK) DISK (whole_cap DISK c)) c lists (Limits-case c is_case) fits
+kind-cold_pairs kind.NetworkInboundUsageDistribution c lists is_case fits = broker-cold_pairs false (load_weights NW_IN) (near_use (ratio_at c.options.balance NW_IN) NW_IN (whole_cap NW_IN c)) c lists (Limits-case c is_case) fits
+kind-cold_pairs kind.NetworkOutboundUsageDistribution c lists is_case fits = broker-cold_pairs false (load_weights NW_OUT) (near_use (ratio_at c.options.balance NW_OUT) NW_OUT (whole_cap NW_OUT c)) c lists (Limits-case c is_case) fits
+kind-cold_pairs kind.CpuUsageDistribution c lists is_case fits = broker-cold_pairs false (load_weights CPU) (near_use (ratio_at c.options.balance CPU) CPU (whole_cap CPU c)) c lists (Limits-case c is_case) fits
 kind-cold_pairs kind.TopicReplicaDistribution c lists is_case fits = topic-cold_pairs false (replica_rule (even c.options.topic_balance (units_of c))) c lists (Limits-case c is_case) fits
 kind-cold_pairs kind.LeaderReplicaDistribution c lists is_case fits = broker-cold_pairs false leader_weights (even c.options.leader_balance (units_of c)) c lists (Limits-case c is_case) fits
-kind-cold_pairs kind.LeaderBytesInDistribution c lists is_case fits = broker-cold_pairs false leader_in_weights (below_use (ratio_at c.options.balance 1) 1 (whole_cap 1 c)) c lists (Limits-case c is_case) fits
+kind-cold_pairs kind.LeaderBytesInDistribution c lists is_case fits = broker-cold_pairs false leader_in_weights (below_use (ratio_at c.options.balance NW_IN) NW_IN (whole_cap NW_IN c)) c lists (Limits-case c is_case) fits
 
 -- an action of partitions none of which stirs does not lessen the goal
 pub kind-still_parts : (k : GoalKind) (c : Cluster) (lists : Lists) → Belongs c lists → StillParts (meaning_of k c) (any_stirs k c lists) lists
@@ -134,20 +135,20 @@ kind-idle_trades kind.Evacuation c lists is_case fits = tt
 kind-idle_trades kind.RackAware c lists is_case fits = tt
 kind-idle_trades kind.MinTopicLeadersPerBroker c lists is_case fits = tt
 kind-idle_trades kind.ReplicaCapacity c lists is_case fits = broker-idle_trades true replica_weights (at_most c.options.max_replicas) c lists (Limits-case c is_case) fits
-kind-idle_trades kind.DiskCapacity c lists is_case fits = broker-idle_trades true (load_weights 3) (within_capacity (ratio_at c.options.limit 3) 3) c lists (Limits-case c is_case) fits
-kind-idle_trades kind.NetworkInboundCapacity c lists is_case fits = broker-idle_trades true (load_weights 1) (within_capacity (ratio_at c.options.limit 1) 1) c lists (Limits-case c is_case) fits
-kind-idle_trades kind.NetworkOutboundCapacity c lists is_case fits = broker-idle_trades true (load_weights 2) (within_capacity (ratio_at c.options.limit 2) 2) c lists (Limits-case c is_case) fits
-kind-idle_trades kind.CpuCapacity c lists is_case fits = broker-idle_trades true (load_weights 0) (within_capacity (ratio_at c.options.limit 0) 0) c lists (Limits-case c is_case) fits
+kind-idle_trades kind.DiskCapacity c lists is_case fits = broker-idle_trades true (load_weights DISK) (within_capacity (ratio_at c.options.limit DISK) DISK) c lists (Limits-case c is_case) fits
+kind-idle_trades kind.NetworkInboundCapacity c lists is_case fits = broker-idle_trades true (load_weights NW_IN) (within_capacity (ratio_at c.options.limit NW_IN) NW_IN) c lists (Limits-case c is_case) fits
+kind-idle_trades kind.NetworkOutboundCapacity c lists is_case fits = broker-idle_trades true (load_weights NW_OUT) (within_capacity (ratio_at c.options.limit NW_OUT) NW_OUT) c lists (Limits-case c is_case) fits
+kind-idle_trades kind.CpuCapacity c lists is_case fits = broker-idle_trades true (load_weights CPU) (within_capacity (ratio_at c.options.limit CPU) CPU) c lists (Limits-case c is_case) fits
 kind-idle_trades kind.Demotion c lists is_case fits = tt
 kind-idle_trades kind.ReplicaDistribution c lists is_case fits = broker-idle_trades false replica_weights (even c.options.replica_balance (units_of c)) c lists (Limits-case c is_case) fits
-kind-idle_trades kind.PotentialNwOut c lists is_case fits = broker-idle_trades false potential_out_weights (within_capacity (ratio_at c.options.limit 2) 2) c lists (Limits-case c is_case) fits
-kind-idle_trades kind.DiskUsageDistribution c lists is_case fits = broker-idle_trades false (load_weights 3) (near_use (ratio_at c.options.balance 3) 3 (whole_cap 3 c)) c lists (Limits-case c is_case) fits
-kind-idle_trades kind.NetworkInboundUsageDistribution c lists is_case fits = broker-idle_trades false (load_weights 1) (near_use (ratio_at c.options.balance 1) 1 (whole_cap 1 c)) c lists (Limits-case c is_case) fits
-kind-idle_trades kind.NetworkOutboundUsageDistribution c lists is_case fits = broker-idle_trades false (load_weights 2) (near_use (ratio_at c.options.balance 2) 2 (whole_cap 2 c)) c lists (Limits-case c is_case) fits
-kind-idle_trades kind.CpuUsageDistribution c lists is_case fits = broker-idle_trades false (load_weights 0) (near_use (ratio_at c.options.balance 0) 0 (whole_cap 0 c)) c lists (Limits-case c is_case) fits
+kind-idle_trades kind.PotentialNwOut c lists is_case fits = broker-idle_trades false potential_out_weights (within_capacity (ratio_at c.options.limit NW_OUT) NW_OUT) c lists (Limits-case c is_case) fits
+kind-idle_trades kind.DiskUsageDistribution c lists is_case fits = broker-idle_trades false (load_weights DISK) (near_use (ratio_at c.options.balance DISK) DISK (whole_cap DISK c)) c lists (Limits-case c is_case) fits
+kind-idle_trades kind.NetworkInboundUsageDistribution c lists is_case fits = broker-idle_trades false (load_weights NW_IN) (near_use (ratio_at c.options.balance NW_IN) NW_IN (whole_cap NW_IN c)) c lists (Limits-case c is_case) fits
+kind-idle_trades kind.NetworkOutboundUsageDistribution c lists is_case fits = broker-idle_trades false (load_weights NW_OUT) (near_use (ratio_at c.options.balance NW_OUT) NW_OUT (whole_cap NW_OUT c)) c lists (Limits-case c is_case) fits
+kind-idle_trades kind.CpuUsageDistribution c lists is_case fits = broker-idle_trades false (load_weights CPU) (near_use (ratio_at c.options.balance CPU) CPU (whole_cap CPU c)) c lists (Limits-case c is_case) fits
 kind-idle_trades kind.TopicReplicaDistribution c lists is_case fits = tt
 kind-idle_trades kind.LeaderReplicaDistribution c lists is_case fits = broker-idle_trades false leader_weights (even c.options.leader_balance (units_of c)) c lists (Limits-case c is_case) fits
-kind-idle_trades kind.LeaderBytesInDistribution c lists is_case fits = broker-idle_trades false leader_in_weights (below_use (ratio_at c.options.balance 1) 1 (whole_cap 1 c)) c lists (Limits-case c is_case) fits
+kind-idle_trades kind.LeaderBytesInDistribution c lists is_case fits = broker-idle_trades false leader_in_weights (below_use (ratio_at c.options.balance NW_IN) NW_IN (whole_cap NW_IN c)) c lists (Limits-case c is_case) fits
 
 -- the rooms of the two brokers of an action decide whether a goal over brokers accepts it
 pub broker-decides : (hard : Bool) (w : Weights) (b : Bounds) (c : Cluster) (lists : Lists) → ((p : Part) → SmallLoads p → SmallWeights w p) → IsCase c → Belongs c lists
@@ -162,20 +163,20 @@ kind-rooms_decide kind.Evacuation c lists is_case fits = tt
 kind-rooms_decide kind.RackAware c lists is_case fits = tt
 kind-rooms_decide kind.MinTopicLeadersPerBroker c lists is_case fits = tt
 kind-rooms_decide kind.ReplicaCapacity c lists is_case fits = broker-decides true replica_weights (at_most c.options.max_replicas) c lists replicas is_case fits
-kind-rooms_decide kind.DiskCapacity c lists is_case fits = broker-decides true (load_weights 3) (within_capacity (ratio_at c.options.limit 3) 3) c lists (loads 3) is_case fits
-kind-rooms_decide kind.NetworkInboundCapacity c lists is_case fits = broker-decides true (load_weights 1) (within_capacity (ratio_at c.options.limit 1) 1) c lists (loads 1) is_case fits
-kind-rooms_decide kind.NetworkOutboundCapacity c lists is_case fits = broker-decides true (load_weights 2) (within_capacity (ratio_at c.options.limit 2) 2) c lists (loads 2) is_case fits
-kind-rooms_decide kind.CpuCapacity c lists is_case fits = broker-decides true (load_weights 0) (within_capacity (ratio_at c.options.limit 0) 0) c lists (loads 0) is_case fits
+kind-rooms_decide kind.DiskCapacity c lists is_case fits = broker-decides true (load_weights DISK) (within_capacity (ratio_at c.options.limit DISK) DISK) c lists (loads 3) is_case fits
+kind-rooms_decide kind.NetworkInboundCapacity c lists is_case fits = broker-decides true (load_weights NW_IN) (within_capacity (ratio_at c.options.limit NW_IN) NW_IN) c lists (loads 1) is_case fits
+kind-rooms_decide kind.NetworkOutboundCapacity c lists is_case fits = broker-decides true (load_weights NW_OUT) (within_capacity (ratio_at c.options.limit NW_OUT) NW_OUT) c lists (loads 2) is_case fits
+kind-rooms_decide kind.CpuCapacity c lists is_case fits = broker-decides true (load_weights CPU) (within_capacity (ratio_at c.options.limit CPU) CPU) c lists (loads 0) is_case fits
 kind-rooms_decide kind.Demotion c lists is_case fits = tt
 kind-rooms_decide kind.ReplicaDistribution c lists is_case fits = broker-decides false replica_weights (even c.options.replica_balance (units_of c)) c lists replicas is_case fits
-kind-rooms_decide kind.PotentialNwOut c lists is_case fits = broker-decides false potential_out_weights (within_capacity (ratio_at c.options.limit 2) 2) c lists potential is_case fits
-kind-rooms_decide kind.DiskUsageDistribution c lists is_case fits = broker-decides false (load_weights 3) (near_use (ratio_at c.options.balance 3) 3 (whole_cap 3 c)) c lists (loads 3) is_case fits
-kind-rooms_decide kind.NetworkInboundUsageDistribution c lists is_case fits = broker-decides false (load_weights 1) (near_use (ratio_at c.options.balance 1) 1 (whole_cap 1 c)) c lists (loads 1) is_case fits
-kind-rooms_decide kind.NetworkOutboundUsageDistribution c lists is_case fits = broker-decides false (load_weights 2) (near_use (ratio_at c.options.balance 2) 2 (whole_cap 2 c)) c lists (loads 2) is_case fits
-kind-rooms_decide kind.CpuUsageDistribution c lists is_case fits = broker-decides false (load_weights 0) (near_use (ratio_at c.options.balance 0) 0 (whole_cap 0 c)) c lists (loads 0) is_case fits
+kind-rooms_decide kind.PotentialNwOut c lists is_case fits = broker-decides false potential_out_weights (within_capacity (ratio_at c.options.limit NW_OUT) NW_OUT) c lists potential is_case fits
+kind-rooms_decide kind.DiskUsageDistribution c lists is_case fits = broker-decides false (load_weights DISK) (near_use (ratio_at c.options.balance DISK) DISK (whole_cap DISK c)) c lists (loads 3) is_case fits
+kind-rooms_decide kind.NetworkInboundUsageDistribution c lists is_case fits = broker-decides false (load_weights NW_IN) (near_use (ratio_at c.options.balance NW_IN) NW_IN (whole_cap NW_IN c)) c lists (loads 1) is_case fits
+kind-rooms_decide kind.NetworkOutboundUsageDistribution c lists is_case fits = broker-decides false (load_weights NW_OUT) (near_use (ratio_at c.options.balance NW_OUT) NW_OUT (whole_cap NW_OUT c)) c lists (loads 2) is_case fits
+kind-rooms_decide kind.CpuUsageDistribution c lists is_case fits = broker-decides false (load_weights CPU) (near_use (ratio_at c.options.balance CPU) CPU (whole_cap CPU c)) c lists (loads 0) is_case fits
 kind-rooms_decide kind.TopicReplicaDistribution c lists is_case fits = tt
 kind-rooms_decide kind.LeaderReplicaDistribution c lists is_case fits = broker-decides false leader_weights (even c.options.leader_balance (units_of c)) c lists leads is_case fits
-kind-rooms_decide kind.LeaderBytesInDistribution c lists is_case fits = broker-decides false leader_in_weights (below_use (ratio_at c.options.balance 1) 1 (whole_cap 1 c)) c lists inbound is_case fits
+kind-rooms_decide kind.LeaderBytesInDistribution c lists is_case fits = broker-decides false leader_in_weights (below_use (ratio_at c.options.balance NW_IN) NW_IN (whole_cap NW_IN c)) c lists inbound is_case fits
 
 -- an action leaves the rooms of all brokers but its two
 pub kind-rooms_stay : (k : GoalKind) (c : Cluster) (lists : Lists) → Belongs c lists → (a : Action) → IsTrue (fits lists a)
@@ -184,17 +185,17 @@ kind-rooms_stay kind.Evacuation c lists belongs a fit b g t = refl
 kind-rooms_stay kind.RackAware c lists belongs a fit b g t = refl
 kind-rooms_stay kind.MinTopicLeadersPerBroker c lists belongs a fit b g t = refl
 kind-rooms_stay kind.ReplicaCapacity c lists belongs a fit b g t = broker-rooms_stay replica_weights (at_most c.options.max_replicas) c lists a belongs fit b g t
-kind-rooms_stay kind.DiskCapacity c lists belongs a fit b g t = broker-rooms_stay (load_weights 3) (within_capacity (ratio_at c.options.limit 3) 3) c lists a belongs fit b g t
-kind-rooms_stay kind.NetworkInboundCapacity c lists belongs a fit b g t = broker-rooms_stay (load_weights 1) (within_capacity (ratio_at c.options.limit 1) 1) c lists a belongs fit b g t
-kind-rooms_stay kind.NetworkOutboundCapacity c lists belongs a fit b g t = broker-rooms_stay (load_weights 2) (within_capacity (ratio_at c.options.limit 2) 2) c lists a belongs fit b g t
-kind-rooms_stay kind.CpuCapacity c lists belongs a fit b g t = broker-rooms_stay (load_weights 0) (within_capacity (ratio_at c.options.limit 0) 0) c lists a belongs fit b g t
+kind-rooms_stay kind.DiskCapacity c lists belongs a fit b g t = broker-rooms_stay (load_weights DISK) (within_capacity (ratio_at c.options.limit DISK) DISK) c lists a belongs fit b g t
+kind-rooms_stay kind.NetworkInboundCapacity c lists belongs a fit b g t = broker-rooms_stay (load_weights NW_IN) (within_capacity (ratio_at c.options.limit NW_IN) NW_IN) c lists a belongs fit b g t
+kind-rooms_stay kind.NetworkOutboundCapacity c lists belongs a fit b g t = broker-rooms_stay (load_weights NW_OUT) (within_capacity (ratio_at c.options.limit NW_OUT) NW_OUT) c lists a belongs fit b g t
+kind-rooms_stay kind.CpuCapacity c lists belongs a fit b g t = broker-rooms_stay (load_weights CPU) (within_capacity (ratio_at c.options.limit CPU) CPU) c lists a belongs fit b g t
 kind-rooms_stay kind.Demotion c lists belongs a fit b g t = refl
 kind-rooms_stay kind.ReplicaDistribution c lists belongs a fit b g t = broker-rooms_stay replica_weights (even c.options.replica_balance (units_of c)) c lists a belongs fit b g t
-kind-rooms_stay kind.PotentialNwOut c lists belongs a fit b g t = broker-rooms_stay potential_out_weights (within_capacity (ratio_at c.options.limit 2) 2) c lists a belongs fit b g t
-kind-rooms_stay kind.DiskUsageDistribution c lists belongs a fit b g t = broker-rooms_stay (load_weights 3) (near_use (ratio_at c.options.balance 3) 3 (whole_cap 3 c)) c lists a belongs fit b g t
-kind-rooms_stay kind.NetworkInboundUsageDistribution c lists belongs a fit b g t = broker-rooms_stay (load_weights 1) (near_use (ratio_at c.options.balance 1) 1 (whole_cap 1 c)) c lists a belongs fit b g t
-kind-rooms_stay kind.NetworkOutboundUsageDistribution c lists belongs a fit b g t = broker-rooms_stay (load_weights 2) (near_use (ratio_at c.options.balance 2) 2 (whole_cap 2 c)) c lists a belongs fit b g t
-kind-rooms_stay kind.CpuUsageDistribution c lists belongs a fit b g t = broker-rooms_stay (load_weights 0) (near_use (ratio_at c.options.balance 0) 0 (whole_cap 0 c)) c lists a belongs fit b g t
+kind-rooms_stay kind.PotentialNwOut c lists belongs a fit b g t = broker-rooms_stay potential_out_weights (within_capacity (ratio_at c.options.limit NW_OUT) NW_OUT) c lists a belongs fit b g t
+kind-rooms_stay kind.DiskUsageDistribution c lists belongs a fit b g t = broker-rooms_stay (load_weights DISK) (near_use (ratio_at c.options.balance DISK) DISK (whole_cap DISK c)) c lists a belongs fit b g t
+kind-rooms_stay kind.NetworkInboundUsageDistribution c lists belongs a fit b g t = broker-rooms_stay (load_weights NW_IN) (near_use (ratio_at c.options.balance NW_IN) NW_IN (whole_cap NW_IN c)) c lists a belongs fit b g t
+kind-rooms_stay kind.NetworkOutboundUsageDistribution c lists belongs a fit b g t = broker-rooms_stay (load_weights NW_OUT) (near_use (ratio_at c.options.balance NW_OUT) NW_OUT (whole_cap NW_OUT c)) c lists a belongs fit b g t
+kind-rooms_stay kind.CpuUsageDistribution c lists belongs a fit b g t = broker-rooms_stay (load_weights CPU) (near_use (ratio_at c.options.balance CPU) CPU (whole_cap CPU c)) c lists a belongs fit b g t
 kind-rooms_stay kind.TopicReplicaDistribution c lists belongs a fit b g t = refl
 kind-rooms_stay kind.LeaderReplicaDistribution c lists belongs a fit b g t = broker-rooms_stay leader_weights (even c.options.leader_balance (units_of c)) c lists a belongs fit b g t
-kind-rooms_stay kind.LeaderBytesInDistribution c lists belongs a fit b g t = broker-rooms_stay leader_in_weights (below_use (ratio_at c.options.balance 1) 1 (whole_cap 1 c)) c lists a belongs fit b g t
+kind-rooms_stay kind.LeaderBytesInDistribution c lists belongs a fit b g t = broker-rooms_stay leader_in_weights (below_use (ratio_at c.options.balance NW_IN) NW_IN (whole_cap NW_IN c)) c lists a belongs fit b g t

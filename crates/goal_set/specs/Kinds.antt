@@ -8,6 +8,7 @@ use Rattle.plan_terms.specs.Goal.{Meaning}
 use Rattle.plan_terms.specs.Racks.{rack_goal}
 use Rattle.goal_set.specs.declared.kinds.GoalKind.{GoalKind}
 use Rattle.goal_set.specs.declared.kinds.GoalKind.TheVariants as kind
+use Rattle.plan_terms.specs.Resources.{CPU, NW_IN, NW_OUT, DISK}
 
 -- what a kind means for a cluster
 abbrev pub meaning_of : GoalKind → Cluster → Meaning
@@ -15,17 +16,17 @@ meaning_of kind.Evacuation c = evacuation_goal c
 meaning_of kind.RackAware c = rack_goal c
 meaning_of kind.MinTopicLeadersPerBroker c = least_leaders_goal c
 meaning_of kind.ReplicaCapacity c = goals.replica_capacity_goal c
-meaning_of kind.DiskCapacity c = goals.capacity_goal 3 c
-meaning_of kind.NetworkInboundCapacity c = goals.capacity_goal 1 c
-meaning_of kind.NetworkOutboundCapacity c = goals.capacity_goal 2 c
-meaning_of kind.CpuCapacity c = goals.capacity_goal 0 c
+meaning_of kind.DiskCapacity c = goals.capacity_goal DISK c
+meaning_of kind.NetworkInboundCapacity c = goals.capacity_goal NW_IN c
+meaning_of kind.NetworkOutboundCapacity c = goals.capacity_goal NW_OUT c
+meaning_of kind.CpuCapacity c = goals.capacity_goal CPU c
 meaning_of kind.Demotion c = demotion_goal c
 meaning_of kind.ReplicaDistribution c = goals.replica_distribution_goal c
 meaning_of kind.PotentialNwOut c = goals.potential_out_goal c
-meaning_of kind.DiskUsageDistribution c = goals.usage_distribution_goal 3 c
-meaning_of kind.NetworkInboundUsageDistribution c = goals.usage_distribution_goal 1 c
-meaning_of kind.NetworkOutboundUsageDistribution c = goals.usage_distribution_goal 2 c
-meaning_of kind.CpuUsageDistribution c = goals.usage_distribution_goal 0 c
+meaning_of kind.DiskUsageDistribution c = goals.usage_distribution_goal DISK c
+meaning_of kind.NetworkInboundUsageDistribution c = goals.usage_distribution_goal NW_IN c
+meaning_of kind.NetworkOutboundUsageDistribution c = goals.usage_distribution_goal NW_OUT c
+meaning_of kind.CpuUsageDistribution c = goals.usage_distribution_goal CPU c
 meaning_of kind.TopicReplicaDistribution c = goals.topic_distribution_goal c
 meaning_of kind.LeaderReplicaDistribution c = goals.leader_distribution_goal c
 meaning_of kind.LeaderBytesInDistribution c = goals.leader_in_goal c

@@ -1,5 +1,6 @@
 -- How a list of names is read: the first fault, and the goals in their order.
 use Rattle.std.specs.Prelude.{ℕ, Bool, true, false, not, ◌&&◌, List, [], ◌∷◌, ◌++◌, bytes_eq, find, is_some, Option, Some, None, option_map, if◌then◌else◌}
+use Rattle.std.specs.Option.{option_or}
 use Rattle.std.specs.List.{flat_map, list_any}
 use Rattle.goal_set.specs.Kinds.{is_hard_kind, name_of}
 use Rattle.goal_set.specs.declared.kinds.GoalKind.{GoalKind}
@@ -55,16 +56,11 @@ is_missing names k = is_hard_kind k && (not (is_built_in k) && not (among names 
 unfoldable pub first_missing : List (List ℕ) → Option GoalKind
 first_missing names = find (is_missing names) default_kinds
 
--- the first fault there is
-abbrev pub or_else : Option GoalFault → Option GoalFault → Option GoalFault
-or_else None later = later
-or_else (Some e) later = Some e
-
 -- what is wrong with some names: one is unknown; or else one stands again; or else a hard goal is missing
 unfoldable pub names_fault : List (List ℕ) → Bool → Option GoalFault
 names_fault names skip =
-    or_else (option_map UnknownGoal (first_unknown names))
-    (or_else (option_map RepeatedGoal (first_again [] names))
+    option_or (option_map UnknownGoal (first_unknown names))
+    (option_or (option_map RepeatedGoal (first_again [] names))
     (if skip then None else option_map (λ k. MissingHardGoal (name_of k)) (first_missing names)))
 
 -- no names have no fault: they stand for the default list

@@ -13,13 +13,14 @@ use distribution_goals::{
     CpuUsageDistributionGoal, DiskUsageDistributionGoal, NetworkInboundUsageDistributionGoal,
     NetworkOutboundUsageDistributionGoal, ReplicaDistributionGoal, TopicReplicaDistributionGoal,
 };
+use goal_terms::{Heat, Room};
 use leader_goals::{
     LeaderBytesInDistributionGoal, LeaderReplicaDistributionGoal, MinTopicLeadersPerBrokerGoal,
     PotentialNwOutGoal,
 };
-use load_model::{Case, LoadBook, Memory};
-use move_actions::{Goal, Heat, Room};
-use plan_terms::Action;
+use load_model::{Case, LoadBook};
+use move_actions::Goal;
+use plan_terms::{Action, Memory};
 use rack_goals::{DemotionGoal, EvacuationGoal, RackAwareGoal};
 use std::alloc::Global;
 
@@ -102,7 +103,8 @@ pub fn goal_of(alloc: Global, kind: GoalKind, case: &Case) -> Result<AnyGoal, Me
 pub fn goals_of(alloc: Global, kinds: &[GoalKind], case: &Case) -> Result<Vec<AnyGoal>, Memory>
     ensures made { IfOk result (λ goals. All (λ g. any_made g case.now) goals.items) }
     ensures kinds { IfOk result (λ goals. map kind_of goals.items ≡ kinds.now) }
-    ensures meanings { IfOk result (λ goals. map (λ g. any_meaning g case.now) goals.items ≡ meanings case.now kinds.now) }
+    ensures meanings { IfOk result
+        (λ goals. map (λ g. any_meaning g case.now) goals.items ≡ meanings case.now kinds.now) }
 {
     let mut goals = Vec::new(alloc);
     for kind in kinds {
@@ -194,13 +196,17 @@ impl Goal for AnyGoal {
 
     ghost small = { λ g c lists made is_case fits. any-small g c lists made is_case fits };
 
-    ghost cold_pairs = { λ g c lists _ is_case fits. kind-cold_pairs (kind_of g) c lists is_case fits };
+    ghost cold_pairs = { λ g c lists _ is_case fits. kind-cold_pairs (kind_of g) c lists is_case
+        fits };
 
     ghost still_parts = { λ g c lists _ _ fits. kind-still_parts (kind_of g) c lists fits };
 
-    ghost idle_trades = { λ g c lists _ is_case fits. kind-idle_trades (kind_of g) c lists is_case fits };
+    ghost idle_trades = { λ g c lists _ is_case fits. kind-idle_trades (kind_of g) c lists is_case
+        fits };
 
-    ghost rooms_decide = { λ g c lists _ is_case fits. kind-rooms_decide (kind_of g) c lists is_case fits };
+    ghost rooms_decide = { λ g c lists _ is_case fits. kind-rooms_decide (kind_of g) c lists is_case
+        fits };
 
-    ghost rooms_stay = { λ g c lists _ belongs a fit k not_giver not_taker. kind-rooms_stay (kind_of g) c lists belongs a fit k not_giver not_taker };
+    ghost rooms_stay = { λ g c lists _ belongs a fit k not_giver not_taker. kind-rooms_stay
+        (kind_of g) c lists belongs a fit k not_giver not_taker };
 }

@@ -25,16 +25,25 @@ impl Model for Failure {
 
     ghost Value = { FailureView };
 
-    ghost view = { λ f. record { case = f.case; start = f.start; goals = f.goals; trace = f.trace; left = f.left } };
+    ghost view = { λ f. record {
+      case = f.case;
+      start = f.start;
+      goals = f.goals;
+      trace = f.trace;
+      left = f.left;
+    } };
 
-    ghost invariant = { λ f. IsFailure (record { case = f.case; start = f.start; goals = f.goals; trace = f.trace; left = f.left }) };
+    ghost invariant = { λ f. IsFailure
+        (record { case = f.case; start = f.start; goals = f.goals; trace = f.trace; left = f.left }) };
 }
 
 impl Failure {
     /// The failure of these turns, the last of which left its goal with the measure.
     pub fn new(case: Case, start: Assign, goals: GoalList, trace: Trace, measure: u128) -> Failure
-        requires { IsFailure (record { case = case; start = start; goals = goals; trace = trace; left = measure }) }
-        ensures { result ≡ record { case = case; start = start; goals = goals; trace = trace; left = measure } }
+        requires { IsFailure
+            (record { case = case; start = start; goals = goals; trace = trace; left = measure }) }
+        ensures { result
+            ≡ record { case = case; start = start; goals = goals; trace = trace; left = measure } }
     {
         Failure {
             case,

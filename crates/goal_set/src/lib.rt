@@ -6,8 +6,6 @@ mod failure;
 mod kinds;
 mod list;
 mod plan;
-#[cfg(test)]
-mod tests;
 mod trace;
 
 pub use any::{AnyGoal, goal_of, goals_of};

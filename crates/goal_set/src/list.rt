@@ -5,7 +5,7 @@ ghost use Rattle.goal_set.specs.Read.{among, first_again, first_missing, first_u
 ghost use Rattle.goal_set.specs.declared.kinds.GoalKind.TheVariants as kind;
 
 use crate::kinds::{DEFAULT_GOALS, DefaultGoal, GoalKind};
-use load_model::{GoalName, Memory};
+use plan_terms::{GoalName, Memory};
 use std::alloc::{AllocError, AllocFailed, Global};
 use std::marker::Model;
 
@@ -251,7 +251,8 @@ impl GoalList {
     pub fn read(alloc: Global, names: &[GoalName], skip: bool) -> Result<GoalList, GoalFault>
         ensures ok { IfOk result (λ l. l ≡ read_kinds names.now) }
         ensures faultless { OnOk result (read_fault names.now skip ≡ None) }
-        ensures fault { IfErr result (λ e. e ≢ GoalFault.Memory → read_fault names.now skip ≡ Some e) }
+        ensures fault { IfErr result
+            (λ e. e ≢ GoalFault.Memory → read_fault names.now skip ≡ Some e) }
     {
         if names.is_empty() {
             return Ok(GoalList {

@@ -23,16 +23,25 @@ impl Model for Plan {
 
     ghost Value = { PlanView };
 
-    ghost view = { λ p. record { case = p.case; start = p.start; goals = p.goals; trace = p.trace; end = p.end } };
+    ghost view = { λ p. record {
+      case = p.case;
+      start = p.start;
+      goals = p.goals;
+      trace = p.trace;
+      end = p.end;
+    } };
 
-    ghost invariant = { λ p. IsPlan (record { case = p.case; start = p.start; goals = p.goals; trace = p.trace; end = p.end }) };
+    ghost invariant = { λ p. IsPlan
+        (record { case = p.case; start = p.start; goals = p.goals; trace = p.trace; end = p.end }) };
 }
 
 impl Plan {
     /// The plan of these turns.
     pub fn new(case: Case, start: Assign, goals: GoalList, trace: Trace, end: Assign) -> Plan
-        requires { IsPlan (record { case = case; start = start; goals = goals; trace = trace; end = end }) }
-        ensures { result ≡ record { case = case; start = start; goals = goals; trace = trace; end = end } }
+        requires { IsPlan
+            (record { case = case; start = start; goals = goals; trace = trace; end = end }) }
+        ensures { result
+            ≡ record { case = case; start = start; goals = goals; trace = trace; end = end } }
     {
         Plan {
             case,

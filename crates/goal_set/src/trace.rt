@@ -2,8 +2,7 @@
 ghost use Rattle.std.specs.Prelude.{◌≡◌, IfOk};
 
 use crate::kinds::GoalKind;
-use load_model::Memory;
-use plan_terms::Actions;
+use plan_terms::{Actions, Memory};
 use std::alloc::Global;
 
 /// The turn of one goal, with its actions in order.

@@ -2,12 +2,12 @@
 use Rattle.std.specs.Prelude.{map, ◌==◌, IsTrue, ◌↔◌, Bool, cond, nat_lt, nat_le}
 use Rattle.std.proofs.Common.{◌≡◌, ℕ, ◌+◌, ◌<◌, ◌≤◌, true, false, List, [], ◌∷◌, length, get_or, zero, suc, refl, ap, ◌∙◌, sym, arith, inl, inr, eq-eqb}
 use Rattle.std.proofs.lemmas.Bool.{ne_eqb, eqb-true, and_parts, true≢false, not-true, cases_eq, cases_Bool, ltb-true, lt-ltb, leb-true, le-leb}
-use Rattle.plan_terms.specs.Cluster.{Cluster, Lists, has}
+use Rattle.plan_terms.specs.Cluster.{Cluster, Lists, has, ids_of}
 use Rattle.plan_terms.specs.Goal.{Accepts, Lessens, measure, sum_below}
 use Rattle.plan_terms.specs.Effect.{after}
 use Rattle.plan_terms.specs.Fits.{fits}
 use Rattle.goal_terms.specs.Quantity.{Weights, quantity, total, trade, Trades}
-use Rattle.goal_terms.specs.PerBroker.{Bounds, is_unit, unit_brokers, bound_excess, broker_excess, per_broker, at_id, ids_of, distinct_ids}
+use Rattle.goal_terms.specs.PerBroker.{Bounds, is_unit, unit_brokers, bound_excess, broker_excess, per_broker, at_id, distinct_ids}
 use Rattle.goal_terms.specs.Sides.{excess_with, sides}
 use Rattle.goal_terms.proofs.TradeLemmas.{trades, total-after}
 use Rattle.plan_terms.specs.declared.cluster.Broker.{Broker}

@@ -4,14 +4,14 @@ use Rattle.std.proofs.Common.{◌≡◌, ℕ, ◌<◌, Bool, true, false, eqb, L
 use Rattle.std.specs.List.{All, list_any}
 use Rattle.std.proofs.lemmas.List.Elements.{All-nil, All-cons}
 use Rattle.std.proofs.lemmas.Bool.{and_from, or_parts, or_from, leb-false, not_from_false, ne_eqb, both_ways}
-use Rattle.plan_terms.specs.Cluster.{Cluster, has}
+use Rattle.plan_terms.specs.Cluster.{Cluster, has, ids_of}
 use Rattle.plan_terms.specs.Faults.{IsCase, case_fault, broker_repeat, part_repeat, first_repeat, repeat_from, same_id, is_heavy, is_large}
 use Rattle.plan_terms.specs.declared.cluster.Broker.{Broker}
 use Rattle.plan_terms.specs.declared.cluster.Part.{Part}
-use Rattle.plan_terms.proofs.FaultLemmas.{first_of-None, WithinLimits-faultless}
+use Rattle.plan_terms.proofs.FaultLemmas.{option_or-None, WithinLimits-faultless}
 use Rattle.plan_terms.proofs.MemberLemmas.{eqb-sym}
 use Rattle.goal_terms.specs.Limits.{Limits, SmallLoads, SmallCap}
-use Rattle.goal_terms.specs.PerBroker.{ids_of, distinct_ids}
+use Rattle.goal_terms.specs.PerBroker.{distinct_ids}
 
 -- none of the numbers is as great as the top, nor the 0 past their end
 none_great : (top : ℕ) → 0 < top → (xs : List ℕ) → list_any (λ x. nat_le top x) xs ≡ false → (r : ℕ) → slice_index xs r < top
@@ -78,7 +78,7 @@ option_map-None f (Some x) h = absurd cc
 pub distinct-case : (c : Cluster) → IsCase c → distinct_ids c.brokers ≡ true
 unfolding case_fault broker_repeat
 distinct-case c h =
-    let none : first_repeat same_id c.brokers ≡ None = option_map-None _ (first_repeat same_id c.brokers) (first_of-None (broker_repeat c.brokers) (part_repeat c.parts) (first_of-None _ _ h.faultless).1).0 in
+    let none : first_repeat same_id c.brokers ≡ None = option_map-None _ (first_repeat same_id c.brokers) (option_or-None (broker_repeat c.brokers) (part_repeat c.parts) (option_or-None _ _ h.faultless).1).0 in
     distinct-unrepeated 0 [] c.brokers none
 
 -- a case is within the limits

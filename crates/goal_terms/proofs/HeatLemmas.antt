@@ -2,11 +2,11 @@
 use Rattle.std.specs.Prelude.{if◌then◌else◌, ◌==◌, nat_lt}
 use Rattle.std.proofs.Common.{◌≡◌, ℕ, ◌+◌, ◌-◌, ◌*◌, ◌<◌, ◌≤◌, true, false, Bool, List, [], ◌∷◌, length, refl, ap, ◌∙◌, sym, arith, inl, inr}
 use Rattle.std.proofs.lemmas.Bool.{cases_Bool, ltb-true, ltb-false, lt-ltb, le-ltb, or_parts}
-use Rattle.plan_terms.specs.Cluster.{Cluster, Lists, has}
+use Rattle.plan_terms.specs.Cluster.{Cluster, Lists, has, ids_of}
 use Rattle.plan_terms.specs.Goal.{Lessens}
 use Rattle.plan_terms.specs.Fits.{fits}
 use Rattle.goal_terms.specs.Quantity.{Weights, quantity, total, trade}
-use Rattle.goal_terms.specs.PerBroker.{ids_of, Bounds, bound_excess, unit_brokers, per_broker, at_id, distinct_ids}
+use Rattle.goal_terms.specs.PerBroker.{Bounds, bound_excess, unit_brokers, per_broker, at_id, distinct_ids}
 use Rattle.goal_terms.specs.Sides.{excess_with, sides}
 use Rattle.goal_terms.specs.Heats.{bound_heat, heat_at_id, broker_heat}
 use Rattle.goal_terms.proofs.BrokerLemmas.{measure-sides}

@@ -4,7 +4,7 @@ use Rattle.std.proofs.Common.{◌≡◌, ℕ, ◌+◌, ◌-◌, ◌*◌, ◌^◌
 use Rattle.std.proofs.lemmas.Bool.{cases_Bool, true≢false, false≢true}
 use Rattle.std.proofs.lemmas.List.{length-map}
 use Rattle.std.specs.List.{All, count_by, filter}
-use Rattle.plan_terms.specs.Cluster.{Cluster, Lists, leads}
+use Rattle.plan_terms.specs.Cluster.{Cluster, Lists, leads, id_at}
 use Rattle.plan_terms.specs.Effect.{after}
 use Rattle.plan_terms.specs.Faults.{topics}
 use Rattle.plan_terms.specs.Goal.{Accepts, Lessens, measure}
@@ -17,7 +17,7 @@ use Rattle.plan_terms.specs.declared.cluster.Part.{Part}
 use Rattle.goal_terms.specs.LeastLeaders.{floor_in, floor_of, leading_brokers, floor_topics, floor_excess, floor_excesses, least_leaders_goal, led_weights, at_least, least_rule, AreFloors}
 use Rattle.goal_terms.specs.Limits.{Limits, SmallBounds, SmallWeights}
 use Rattle.goal_terms.specs.Pairs.{ColdPairs}
-use Rattle.goal_terms.specs.PerBroker.{bound_excess, broker_excess, id_at, unit_brokers, per_broker}
+use Rattle.goal_terms.specs.PerBroker.{bound_excess, broker_excess, unit_brokers, per_broker}
 use Rattle.goal_terms.specs.PerTopic.{rule_weights, topic_heat, per_topic}
 use Rattle.goal_terms.specs.Quantity.{quantity, total, whole, list_whole}
 use Rattle.goal_terms.proofs.BoundLemmas.{product-le, length-units}

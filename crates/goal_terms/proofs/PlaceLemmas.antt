@@ -6,13 +6,13 @@ use Rattle.std.proofs.lemmas.Bool.{ne_eqb, cases_Bool, eqb-true, and_parts, or_l
 use Rattle.std.proofs.lemmas.List.{get_or-map}
 use Rattle.std.proofs.lemmas.List.Quantifiers.{position-Some}
 use Rattle.std.proofs.lemmas.List.Sums.{sum_by-cons}
-use Rattle.plan_terms.specs.Cluster.{has}
+use Rattle.plan_terms.specs.Cluster.{has, id_at, ids_of}
 use Rattle.plan_terms.specs.States.{is_dead}
 use Rattle.plan_terms.specs.declared.cluster.Broker.{Broker}
 use Rattle.goal_terms.specs.Rooms.{room_at_id, free}
 use Rattle.goal_terms.specs.declared.room.Room.{Room}
 use Rattle.goal_terms.specs.Heats.{heat_at_id}
-use Rattle.goal_terms.specs.PerBroker.{is_unit, unit_brokers, at_id, ids_of, id_at, distinct_ids}
+use Rattle.goal_terms.specs.PerBroker.{is_unit, unit_brokers, at_id, distinct_ids}
 use Rattle.goal_terms.specs.declared.heat.Heat.{Heat}
 use Rattle.goal_terms.specs.declared.heat.Heat.TheVariants.{Cold}
 

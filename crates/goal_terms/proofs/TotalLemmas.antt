@@ -5,12 +5,12 @@ use Rattle.std.specs.List.{All, list_all, sum_by, count_by}
 use Rattle.std.proofs.lemmas.Bool.{cases_Bool, cases_eq, ne_eqb, and_parts, or_left, or_right, false≢true, not-true, or_parts}
 use Rattle.std.proofs.lemmas.List.Sums.{sum_by-cons}
 use Rattle.plan_terms.specs.Belongs.{Belongs, distinct}
-use Rattle.plan_terms.specs.Cluster.{Cluster, Lists, has, is_known}
+use Rattle.plan_terms.specs.Cluster.{Cluster, Lists, has, is_known, ids_of}
 use Rattle.plan_terms.specs.Faults.{IsCase}
 use Rattle.plan_terms.specs.Load.{list_load}
 use Rattle.plan_terms.specs.declared.cluster.Broker.{Broker}
 use Rattle.plan_terms.specs.declared.cluster.Part.{Part}
-use Rattle.goal_terms.specs.PerBroker.{ids_of, distinct_ids}
+use Rattle.goal_terms.specs.PerBroker.{distinct_ids}
 use Rattle.goal_terms.specs.Quantity.{Weights, quantity, total, list_whole}
 use Rattle.goal_terms.proofs.BrokerLemmas.{added}
 use Rattle.goal_terms.proofs.CaseLemmas.{distinct-case}

@@ -9,6 +9,7 @@ use Rattle.goal_terms.specs.Bands.{units_of, whole_cap, at_most, within_capacity
 use Rattle.goal_terms.specs.PerBroker.{per_broker}
 use Rattle.goal_terms.specs.PerTopic.{per_topic, replica_rule}
 use Rattle.goal_terms.specs.Quantity.{replica_weights, leader_weights, load_weights, potential_out_weights, leader_in_weights}
+use Rattle.plan_terms.specs.Resources.{NW_IN, NW_OUT}
 
 -- the threshold of a resource
 abbrev pub ratio_at : List Fraction → ℕ → Fraction
@@ -36,7 +37,7 @@ replica_distribution_goal c = per_broker false replica_weights (even c.options.r
 
 -- no broker would send more than its part of the capacity if it led all that it holds
 abbrev pub potential_out_goal : Cluster → Meaning
-potential_out_goal c = per_broker false potential_out_weights (within_capacity (ratio_at c.options.limit 2) 2) c
+potential_out_goal c = per_broker false potential_out_weights (within_capacity (ratio_at c.options.limit NW_OUT) NW_OUT) c
 
 -- each broker uses the resource about as much as all brokers together
 abbrev pub usage_distribution_goal : ℕ → Cluster → Meaning
@@ -52,4 +53,4 @@ leader_distribution_goal c = per_broker false leader_weights (even c.options.lea
 
 -- no broker receives much more as a leader than all together
 abbrev pub leader_in_goal : Cluster → Meaning
-leader_in_goal c = per_broker false leader_in_weights (below_use (ratio_at c.options.balance 1) 1 (whole_cap 1 c)) c
+leader_in_goal c = per_broker false leader_in_weights (below_use (ratio_at c.options.balance NW_IN) NW_IN (whole_cap NW_IN c)) c

@@ -2,7 +2,7 @@
 use Rattle.std.specs.Prelude.{◌≡◌, ℕ, Bool, false, ◌^◌, ◌+◌, ◌-◌, ◌*◌, ◌/◌, ◌<◌, ◌≤◌, ◌↔◌, IsTrue, List, [], length, get_or, slice_index}
 use Rattle.std.specs.List.{All, sum_by}
 use Rattle.plan_terms.specs.Belongs.{Belongs}
-use Rattle.plan_terms.specs.Cluster.{Cluster, Lists, has}
+use Rattle.plan_terms.specs.Cluster.{Cluster, Lists, has, ids_of}
 use Rattle.plan_terms.specs.Effect.{after}
 use Rattle.plan_terms.specs.Faults.{IsCase, topics}
 use Rattle.plan_terms.specs.Fits.{fits}
@@ -18,12 +18,13 @@ use Rattle.goal_terms.specs.Heats.{bound_heat, broker_heat, has_excess, partitio
 use Rattle.goal_terms.specs.Limits.{Limits, SmallLoads, SmallWeights, SmallBounds}
 use Rattle.goal_terms.specs.Pairs.{giver, taker, ColdPairs, IdleTrades, StillParts}
 use Rattle.goal_terms.specs.Partitions.{evacuation_goal, demotion_goal}
-use Rattle.goal_terms.specs.PerBroker.{Bounds, ids_of, unit_brokers, bound_excess, per_broker}
+use Rattle.goal_terms.specs.PerBroker.{Bounds, unit_brokers, bound_excess, per_broker}
 use Rattle.goal_terms.specs.PerTopic.{TopicRule, rule_weights, replica_rule, per_topic, first_topic, second_topic, topic_heat}
 use Rattle.goal_terms.specs.Quantity.{Weights, quantity, total, trade, Trades, replica_weights, leader_weights, load_weights, potential_out_weights, leader_in_weights, topic_weights}
 use Rattle.goal_terms.specs.Rooms.{RoomsDecide, broker_room}
 use Rattle.goal_terms.specs.Sides.{sides}
 use Rattle.goal_terms.specs.declared.heat.Heat.TheVariants as heat
+use Rattle.plan_terms.specs.Resources.{NW_IN}
 
 -- a case is within the limits
 abbrev pub CasesAreLimited : Type 0
@@ -125,7 +126,7 @@ pub record TotalsAreSums : Type 0 where
   pub together : (w : Weights) (c : Cluster) (lists : Lists) → IsCase c → Belongs c lists → sum_by (λ (x : Broker). quantity w c.parts x.id lists) c.brokers ≡ total w c.parts lists
   pub replicas : (c : Cluster) (lists : Lists) → Belongs c lists → total replica_weights c.parts lists ≡ sum_by length lists
   pub leads : (c : Cluster) (lists : Lists) → Belongs c lists → total leader_weights c.parts lists ≡ length c.parts
-  pub inbound : (c : Cluster) (lists : Lists) → Belongs c lists → total leader_in_weights c.parts lists ≡ sum_by (λ (p : Part). slice_index p.loads.lead 1) c.parts
+  pub inbound : (c : Cluster) (lists : Lists) → Belongs c lists → total leader_in_weights c.parts lists ≡ sum_by (λ (p : Part). slice_index p.loads.lead NW_IN) c.parts
 
 -- the excess of a broker that carries q, where all carry `all`, in numbers
 pub record ExcessesInNumbers : Type 0 where

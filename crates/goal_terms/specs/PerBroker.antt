@@ -2,7 +2,7 @@
 use Rattle.std.specs.Prelude.{ℕ, Bool, not, ◌+◌, ◌-◌, ◌*◌, ◌==◌, List, [], ◌∷◌, map, length, get_or, if◌then◌else◌}
 use Rattle.std.specs.List.{filter}
 use Rattle.plan_terms.specs.Belongs.{distinct}
-use Rattle.plan_terms.specs.Cluster.{Cluster, Lists}
+use Rattle.plan_terms.specs.Cluster.{Cluster, Lists, ids_of}
 use Rattle.plan_terms.specs.Goal.{Meaning}
 use Rattle.plan_terms.specs.States.{is_dead}
 use Rattle.plan_terms.specs.declared.cluster.Broker.{Broker}
@@ -47,14 +47,6 @@ abbrev pub at_id : (Broker → ℕ) → List Broker → ℕ → ℕ
 at_id f [] k = 0
 at_id f (x ∷ xs) k = if x.id == k then f x else at_id f xs k
 
--- the ids, in order
-abbrev pub ids_of : List Broker → List ℕ
-ids_of brokers = map (λ x. x.id) brokers
-
 -- no id stands twice
 abbrev pub distinct_ids : List Broker → Bool
 distinct_ids brokers = distinct (ids_of brokers)
-
--- the id of the broker at a place
-abbrev pub id_at : List Broker → ℕ → ℕ
-id_at brokers i = get_or (ids_of brokers) i 0

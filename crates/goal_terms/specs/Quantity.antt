@@ -6,6 +6,7 @@ use Rattle.plan_terms.specs.declared.cluster.Part.{Part}
 use Rattle.plan_terms.specs.declared.actions.Action.{Action}
 use Rattle.plan_terms.specs.declared.actions.Action.TheVariants.{Move, Lead, Swap}
 use Rattle.goal_terms.specs.declared.trade.Trade.{Trade}
+use Rattle.plan_terms.specs.Resources.{NW_IN, NW_OUT}
 
 -- what the first place of a partition's list carries, and each other place
 pub record Weights : Type 0 where
@@ -49,11 +50,11 @@ load_weights r = record { lead = λ p. slice_index p.loads.lead r; follow = λ p
 
 -- the leader's NW_OUT at every place
 abbrev pub potential_out_weights : Weights
-potential_out_weights = record { lead = λ p. slice_index p.loads.lead 2; follow = λ p. slice_index p.loads.lead 2 }
+potential_out_weights = record { lead = λ p. slice_index p.loads.lead NW_OUT; follow = λ p. slice_index p.loads.lead NW_OUT }
 
 -- the leader's NW_IN at the first place
 abbrev pub leader_in_weights : Weights
-leader_in_weights = record { lead = λ p. slice_index p.loads.lead 1; follow = λ _. 0 }
+leader_in_weights = record { lead = λ p. slice_index p.loads.lead NW_IN; follow = λ _. 0 }
 
 -- each replica of the topic counts as 1
 abbrev pub topic_weights : List ℕ → Weights

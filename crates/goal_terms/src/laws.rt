@@ -14,6 +14,7 @@ ghost use Rattle.goal_terms.specs.PerBroker.{per_broker};
 ghost use Rattle.goal_terms.specs.PerTopic.{per_topic, replica_rule};
 ghost use Rattle.goal_terms.specs.Quantity.{trade, replica_weights, leader_weights, load_weights, potential_out_weights, leader_in_weights};
 ghost use Rattle.goal_terms.specs.Laws.{CasesAreLimited, ActionsTrade, TotalsStay, QuantitiesAreSmall, MeasuresAreSmall, WeightsAreSmall, BoundsAreSmall, PartitionMeasuresAreSmall, TwoBrokersAccept, TwoBrokersLessen, BrokerRoomsDecide, RoomsStay, HeatsTell, ColdBrokersLessenNothing, ColdMembersLessenNothing, StillPartsLessenNothing, IdleTradesLessenNothing, QuantitiesAreSums, TotalsAreSums, ExcessesInNumbers, TopicsComeFirst, TopicsAddUp, TouchedTopicsAccept, ColdTopicsLessenNothing, TopicMeasuresAreSmall, GoalMeasuresAreSmall};
+ghost use Rattle.plan_terms.specs.Resources.{NW_IN, DISK};
 
 /// Brokers and partitions without a fault are within the limits.
 pub fn cases_are_limited()
@@ -153,26 +154,45 @@ pub fn goals_on_examples()
     ensures lists { Belongs shared_rack ((0 ∷ 1 ∷ []) ∷ []) }
 
     // One replica each on three brokers, one of which is lost and is no unit.
-    ensures most_none { measure (per_broker true replica_weights (at_most 0) replaced_broker) one_each ≡ 2 }
-    ensures most_one { measure (per_broker true replica_weights (at_most 1) replaced_broker) one_each ≡ 0 }
+    ensures most_none { measure (per_broker true replica_weights (at_most 0) replaced_broker)
+        one_each ≡ 2 }
+    ensures most_one { measure (per_broker true replica_weights (at_most 1) replaced_broker)
+        one_each ≡ 0 }
 
     // The leader carries 4 and the follower 7, of capacities of 9, half of which may be used: 14 - 9.
-    ensures capacity { measure (per_broker true (load_weights 3) (within_capacity (record { num = 1; den = 2 }) 3) shared_rack) ((0 ∷ 1 ∷ []) ∷ []) ≡ 5 }
+    ensures capacity { measure
+        (per_broker true (load_weights DISK) (within_capacity (record { num = 1; den = 2 }) 3)
+        shared_rack) ((0 ∷ 1 ∷ []) ∷ []) ≡ 5 }
 
     // Three replicas on one of two brokers: it may have 2, and the other is to have 1.
-    ensures shares { measure (per_broker false replica_weights (even (record { num = 1; den = 1 }) (units_of replaced_broker)) replaced_broker) ((1 ∷ []) ∷ (1 ∷ []) ∷ (1 ∷ []) ∷ []) ≡ 2 }
+    ensures shares { measure
+        (per_broker false replica_weights
+        (even (record { num = 1; den = 1 }) (units_of replaced_broker)) replaced_broker)
+        ((1 ∷ []) ∷ (1 ∷ []) ∷ (1 ∷ []) ∷ []) ≡ 2 }
 
     // One leader on one of three brokers: it may have 1, and the others may have none.
-    ensures leaders { measure (per_broker false leader_weights (even (record { num = 1; den = 1 }) (units_of shared_rack)) shared_rack) ((0 ∷ 1 ∷ []) ∷ []) ≡ 0 }
+    ensures leaders { measure
+        (per_broker false leader_weights
+        (even (record { num = 1; den = 1 }) (units_of shared_rack)) shared_rack)
+        ((0 ∷ 1 ∷ []) ∷ []) ≡ 0 }
 
     // Loads of 4, 7 and 0, times 27, lie 9 above, 90 above and 99 below 11 times 9.
-    ensures near { measure (per_broker false (load_weights 3) (near_use (record { num = 1; den = 1 }) 3 (whole_cap 3 shared_rack)) shared_rack) ((0 ∷ 1 ∷ []) ∷ []) ≡ 198 }
+    ensures near { measure
+        (per_broker false (load_weights DISK)
+        (near_use (record { num = 1; den = 1 }) 3 (whole_cap DISK shared_rack)) shared_rack)
+        ((0 ∷ 1 ∷ []) ∷ []) ≡ 198 }
 
     // The follower would send what its leader does: 3 times 9, and twice 18 above a ninth of 9.
-    ensures potential { measure (per_broker false potential_out_weights (within_capacity (record { num = 1; den = 9 }) 2) shared_rack) ((0 ∷ 1 ∷ []) ∷ []) ≡ 36 }
+    ensures potential { measure
+        (per_broker false potential_out_weights
+        (within_capacity (record { num = 1; den = 9 }) 2) shared_rack) ((0 ∷ 1 ∷ []) ∷ [])
+        ≡ 36 }
 
     // The leader alone receives from clients: 2 times 27 lies 36 above 2 times 9.
-    ensures inbound { measure (per_broker false leader_in_weights (below_use (record { num = 1; den = 1 }) 1 (whole_cap 1 shared_rack)) shared_rack) ((0 ∷ 1 ∷ []) ∷ []) ≡ 36 }
+    ensures inbound { measure
+        (per_broker false leader_in_weights
+        (below_use (record { num = 1; den = 1 }) 1 (whole_cap NW_IN shared_rack))
+        shared_rack) ((0 ∷ 1 ∷ []) ∷ []) ≡ 36 }
 
     // One of the three replicas is on a lost broker.
     ensures lost { measure (evacuation_goal replaced_broker) one_each ≡ 1 }
@@ -182,17 +202,26 @@ pub fn goals_on_examples()
     ensures followed { measure (demotion_goal demoted_broker) ((1 ∷ 0 ∷ []) ∷ []) ≡ 0 }
 
     // The only topic's three replicas, on one of two brokers as before.
-    ensures topics { measure (per_topic false (replica_rule (even (record { num = 1; den = 1 }) (units_of replaced_broker))) replaced_broker) ((1 ∷ []) ∷ (1 ∷ []) ∷ (1 ∷ []) ∷ []) ≡ 2 }
+    ensures topics { measure
+        (per_topic false
+        (replica_rule (even (record { num = 1; den = 1 }) (units_of replaced_broker)))
+        replaced_broker) ((1 ∷ []) ∷ (1 ∷ []) ∷ (1 ∷ []) ∷ []) ≡ 2 }
 
     // A broker is above or below its bounds, or cold, as one that is lost.
     ensures above { broker_heat replica_weights (at_most 0) replaced_broker one_each 1 ≡ heat.Above }
-    ensures below { broker_heat replica_weights (even (record { num = 1; den = 1 }) (units_of replaced_broker)) replaced_broker ((1 ∷ []) ∷ (1 ∷ []) ∷ (1 ∷ []) ∷ []) 2 ≡ heat.Below }
+    ensures below { broker_heat replica_weights
+        (even (record { num = 1; den = 1 }) (units_of replaced_broker)) replaced_broker
+        ((1 ∷ []) ∷ (1 ∷ []) ∷ (1 ∷ []) ∷ []) 2 ≡ heat.Below }
     ensures cold { broker_heat replica_weights (at_most 1) replaced_broker one_each 1 ≡ heat.Cold }
-    ensures lost_is_cold { broker_heat replica_weights (at_most 0) replaced_broker one_each 0 ≡ heat.Cold }
+    ensures lost_is_cold { broker_heat replica_weights (at_most 0) replaced_broker one_each 0
+        ≡ heat.Cold }
     ensures other { partition_heat (lost_members replaced_broker) one_each 0 ≡ heat.Other }
 
     // What an action gives and gets back: the leader's load, or the follower's.
-    ensures moved { trade (load_weights 3) shared_rack.parts ((0 ∷ 1 ∷ []) ∷ []) (Action.Move 0 1 2) ≡ record { from = 1; to = 2; out = 7; back = 0 } }
-    ensures led { trade (load_weights 3) shared_rack.parts ((0 ∷ 1 ∷ []) ∷ []) (Action.Lead 0 1) ≡ record { from = 0; to = 1; out = 4; back = 7 } }
-    ensures swapped { trade (load_weights 3) replaced_broker.parts ((1 ∷ []) ∷ (2 ∷ 0 ∷ []) ∷ []) (Action.Swap 0 1 1 0) ≡ record { from = 1; to = 0; out = 4; back = 7 } }
+    ensures moved { trade (load_weights DISK) shared_rack.parts ((0 ∷ 1 ∷ []) ∷ [])
+        (Action.Move 0 1 2) ≡ record { from = 1; to = 2; out = 7; back = 0 } }
+    ensures led { trade (load_weights DISK) shared_rack.parts ((0 ∷ 1 ∷ []) ∷ []) (Action.Lead 0 1)
+        ≡ record { from = 0; to = 1; out = 4; back = 7 } }
+    ensures swapped { trade (load_weights DISK) replaced_broker.parts ((1 ∷ []) ∷ (2 ∷ 0 ∷ []) ∷ [])
+        (Action.Swap 0 1 1 0) ≡ record { from = 1; to = 0; out = 4; back = 7 } }
 {}

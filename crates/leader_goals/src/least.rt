@@ -1,14 +1,14 @@
 // The goal that each broker that may lead leads at least as many partitions of a topic as the options ask.
 ghost use Rattle.goal_terms.specs.LeastLeaders.{IsMadeFor, at_least, floor_excess, floor_in, floor_of, led_weights, least_leaders_goal, least_rule};
 ghost use Rattle.goal_terms.specs.Limits.{SmallLoads, SmallWeights};
-ghost use Rattle.goal_terms.specs.PerBroker.{id_at, per_broker};
+ghost use Rattle.goal_terms.specs.PerBroker.{per_broker};
 ghost use Rattle.goal_terms.specs.PerTopic.{rule_weights, topic_heat};
 ghost use Rattle.goal_terms.specs.Quantity.{quantity};
 ghost use Rattle.goal_terms.specs.Rooms.{free};
 ghost use Rattle.goal_terms.specs.Sides.{excess_with, sides};
 ghost use Rattle.load_model.specs.Places.{topic_at};
 ghost use Rattle.plan_terms.specs.Belongs.{IsBookOf};
-ghost use Rattle.plan_terms.specs.Cluster.{Cluster};
+ghost use Rattle.plan_terms.specs.Cluster.{Cluster, id_at};
 ghost use Rattle.plan_terms.specs.Faults.{topics};
 ghost use Rattle.plan_terms.specs.Fits.{fits};
 ghost use Rattle.plan_terms.specs.Goal.{Accepts};
@@ -19,10 +19,10 @@ use broker_goals::{
     Amount, Band, Edges, amount_at, first_topic_place, leading_count, leading_place,
     second_topic_place, sides_of, topics_of, total_of, unit_excess,
 };
-use goal_terms::Sides;
-use load_model::{Broker, Case, LoadBook, Memory, Part, Topic};
-use move_actions::{Goal, Heat, Room};
-use plan_terms::{Action, MinLeaders};
+use goal_terms::{Heat, Room, Sides};
+use load_model::{Case, LoadBook};
+use move_actions::Goal;
+use plan_terms::{Action, Broker, Memory, MinLeaders, Part, Topic};
 use std::alloc::Global;
 
 /// How many partitions of one topic a broker leads.
@@ -38,7 +38,8 @@ impl<'t> Amount for LedInTopic<'t> {
 
     ghost weights = { λ q. led_weights q.name.now };
 
-    ghost made_for = { λ q c. (q.place < length (topics c.parts)) × (topic_at c.parts q.place ≡ q.name.now) };
+    ghost made_for = { λ q c. (q.place < length (topics c.parts))
+        × (topic_at c.parts q.place ≡ q.name.now) };
 
     #[tactic(auto, using(plan_terms::proofs::SameLemmas::brokers_same, plan_terms::proofs::SameLemmas::topics_same))]
     fn amount(&self, _case: &Case, book: &LoadBook, broker: usize) -> u128 {
@@ -188,7 +189,9 @@ impl MinTopicLeadersPerBrokerGoal {
     fn is_named(&self, case: &Case, place: usize) -> bool
         requires made { IsMadeFor self.now.topics.items self.now.floors.items case.now }
         requires place { place < length self.now.topics.items }
-        ensures { result ≡ is_some (floor_in case.now.options.min_leaders (get_or self.now.topics.items place [])) }
+        ensures { result
+            ≡ is_some
+            (floor_in case.now.options.min_leaders (get_or self.now.topics.items place [])) }
     {
         self.floors[place].is_some()
     }
@@ -210,7 +213,10 @@ impl MinTopicLeadersPerBrokerGoal {
         requires place { place < length self.now.topics.items }
         requires belongs { IsBookOf case.now book.now }
         requires applies { IsTrue (fits book.now.lists action) }
-        ensures value { result ≡ sides (rule_weights (least_rule case.now) (get_or self.now.topics.items place [])) ((least_rule case.now).bounds (get_or self.now.topics.items place [])) case.now book.now.lists action }
+        ensures value { result
+            ≡ sides (rule_weights (least_rule case.now) (get_or self.now.topics.items place []))
+            ((least_rule case.now).bounds (get_or self.now.topics.items place [])) case.now
+            book.now.lists action }
         ensures giver { result.giver ≤ 2 ^ 111 }
         ensures giver_after { result.giver_after ≤ 2 ^ 111 }
         ensures taker { result.taker ≤ 2 ^ 111 }
@@ -231,7 +237,12 @@ impl MinTopicLeadersPerBrokerGoal {
         requires place { place < length self.now.topics.items }
         requires belongs { IsBookOf case.now book.now }
         requires applies { IsTrue (fits book.now.lists action) }
-        ensures { IsTrue result ↔ Accepts (per_broker true (rule_weights (least_rule case.now) (get_or self.now.topics.items place [])) ((least_rule case.now).bounds (get_or self.now.topics.items place [])) case.now) book.now.lists action }
+        ensures { IsTrue result
+            ↔ Accepts
+            (per_broker true
+            (rule_weights (least_rule case.now) (get_or self.now.topics.items place []))
+            ((least_rule case.now).bounds (get_or self.now.topics.items place [])) case.now)
+            book.now.lists action }
     {
         if !self.is_named(case, place) {
             return true;
@@ -247,7 +258,10 @@ impl MinTopicLeadersPerBrokerGoal {
         requires place { place < length self.now.topics.items }
         requires belongs { IsBookOf case.now book.now }
         requires broker { broker < length case.now.brokers }
-        ensures { result ≡ get_or (map (floor_excess case.now book.now.lists (get_or self.now.topics.items place [])) case.now.brokers) broker 0 }
+        ensures { result
+            ≡ get_or
+            (map (floor_excess case.now book.now.lists (get_or self.now.topics.items place []))
+            case.now.brokers) broker 0 }
     {
         let count = amount_at(&self.led(place), case, book, broker);
         let band = self.band(case, place);
@@ -260,7 +274,15 @@ impl MinTopicLeadersPerBrokerGoal {
         requires place { place < length self.now.topics.items }
         requires belongs { IsBookOf case.now book.now }
         requires broker { broker < length case.now.brokers }
-        ensures { result ≡ nat_lt 0 (excess_with (rule_weights (least_rule case.now) (get_or self.now.topics.items place [])) ((least_rule case.now).bounds (get_or self.now.topics.items place [])) case.now book.now.lists (id_at case.now.brokers broker) (quantity (rule_weights (least_rule case.now) (get_or self.now.topics.items place [])) case.now.parts (id_at case.now.brokers broker) book.now.lists)) }
+        ensures { result
+            ≡ nat_lt 0
+            (excess_with
+            (rule_weights (least_rule case.now) (get_or self.now.topics.items place []))
+            ((least_rule case.now).bounds (get_or self.now.topics.items place [])) case.now
+            book.now.lists (id_at case.now.brokers broker)
+            (quantity
+            (rule_weights (least_rule case.now) (get_or self.now.topics.items place []))
+            case.now.parts (id_at case.now.brokers broker) book.now.lists)) }
     {
         let kind = self.led(place);
         let band = self.band(case, place);
@@ -357,9 +379,11 @@ impl Goal for MinTopicLeadersPerBrokerGoal {
         None
     }
 
-    ghost small = { λ _ c lists made is_case fits. least-small c lists made.small (Limits-case c is_case) };
+    ghost small = { λ _ c lists made is_case fits. least-small c lists made.small
+        (Limits-case c is_case) };
 
-    ghost cold_pairs = { λ _ c lists _ is_case fits. least-cold_pairs c lists (Limits-case c is_case) fits };
+    ghost cold_pairs = { λ _ c lists _ is_case fits. least-cold_pairs c lists
+        (Limits-case c is_case) fits };
 
     ghost still_parts = { λ _ c lists _ _ _. stirred-still_parts (least_leaders_goal c) lists };
 

@@ -27,6 +27,7 @@ pub type LeaderBytesInDistributionGoal = BrokerGoal<LeaderIn, BelowUse<NetworkIn
 /// What the goals mean for a cluster, by the thresholds of its options.
 pub fn meanings()
     ensures outbound { ⟦<PotentialNwOutGoal as Goal>⟧.meaning ≡ λ _ c. potential_out_goal c }
-    ensures leads { ⟦<LeaderReplicaDistributionGoal as Goal>⟧.meaning ≡ λ _ c. leader_distribution_goal c }
+    ensures leads { ⟦<LeaderReplicaDistributionGoal as Goal>⟧.meaning
+        ≡ λ _ c. leader_distribution_goal c }
     ensures inbound { ⟦<LeaderBytesInDistributionGoal as Goal>⟧.meaning ≡ λ _ c. leader_in_goal c }
 {}

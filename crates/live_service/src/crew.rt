@@ -20,7 +20,7 @@ use std::thread::{Threads, join};
 use turn_book::{Pass, Turn};
 
 // A mover's loop, with its copier.
-fn move_once<A: Admin, K: Copier, R: Wait>(
+fn move_once<A: Admin, K: Copier, R: Threads + Wait + Sync>(
     rt: &R,
     alloc: Global,
     turn: &Turn<Book<A>>,
@@ -38,7 +38,7 @@ fn move_once<A: Admin, K: Copier, R: Wait>(
 }
 
 // A planner's loop.
-fn plan_once<A: Admin, R: Wait>(
+fn plan_once<A: Admin, R: Threads + Wait + Sync>(
     rt: &R,
     alloc: Global,
     turn: &Turn<Book<A>>,
@@ -85,7 +85,8 @@ where
         turn.now.start.file pass result.0 (copiers_told K.Copier front)
         (copiers_told K.Copier result.1) movers }
     ensures count { vec_len result.1.service.copiers ≡ vec_len front.service.copiers }
-    ensures copiers_room { vec_capacity front.service.copiers ≤ vec_capacity result.1.service.copiers }
+    ensures copiers_room { vec_capacity front.service.copiers
+        ≤ vec_capacity result.1.service.copiers }
 {
     if movers == 0 {
         return serve_front(rt, alloc, turn, pass, front, serving);
@@ -102,16 +103,19 @@ where
                 (copies_told K.Copier result.1) }
         { move_once(rt, alloc, turn, own, copier) },
         move || -> (Pass<Book<A>>, Front<K, L, N>, FrontEnd)
-            requires { Belongs turn.now pass × (fewer + links_of serving ≤ vec_len front.service.copiers)
+            requires { Belongs turn.now pass
+                × (fewer + links_of serving ≤ vec_len front.service.copiers)
                 × (fewer + links_of serving < pass.parts) × (front.service.served.items ≡ [])
                 × (links_of serving ≤ vec_capacity front.service.served) }
             ensures { Belongs turn.entry.now result.0 × IsLater pass result.0
-                × HasRun (λ xs ys. HasFronted (HasAnswered turn.entry.now.start.file (links_asked serving)
+                × HasRun
+                (λ xs ys. HasFronted
+                (HasAnswered turn.entry.now.start.file (links_asked serving)
                 (front_told K.Copier L.Source L.Sink N.Listener front)
                 (front_told K.Copier L.Source L.Sink N.Listener result.1)
-                (served_told N.Conn.Source N.Conn.Sink result.1.service.served.items) result.2 xs ys))
-                turn.entry.now.start.file pass result.0 (copiers_told K.Copier front)
-                (copiers_told K.Copier result.1) fewer
+                (served_told N.Conn.Source N.Conn.Sink result.1.service.served.items)
+                result.2 xs ys)) turn.entry.now.start.file pass result.0
+                (copiers_told K.Copier front) (copiers_told K.Copier result.1) fewer
                 × (vec_len result.1.service.copiers ≡ vec_len front.service.copiers)
                 × (vec_capacity front.service.copiers ≤ vec_capacity result.1.service.copiers) }
         { with_movers(rt, alloc, turn, pass, fewer, front, serving) },
@@ -150,14 +154,17 @@ where
     requires room { links_of serving ≤ vec_capacity front.service.served }
     ensures own { Belongs turn.now result.0 }
     ensures later { IsLater pass result.0 }
-    ensures run { HasRunAll (λ xs ys. HasFronted (HasAnswered turn.now.start.file (links_asked serving)
+    ensures run { HasRunAll
+        (λ xs ys. HasFronted
+        (HasAnswered turn.now.start.file (links_asked serving)
         (front_told K.Copier L.Source L.Sink N.Listener front)
         (front_told K.Copier L.Source L.Sink N.Listener result.1)
         (served_told N.Conn.Source N.Conn.Sink result.1.service.served.items) result.2 xs ys))
         turn.now.start.file pass result.0 (copiers_told K.Copier front)
         (copiers_told K.Copier result.1) movers planners }
     ensures count { vec_len result.1.service.copiers ≡ vec_len front.service.copiers }
-    ensures copiers_room { vec_capacity front.service.copiers ≤ vec_capacity result.1.service.copiers }
+    ensures copiers_room { vec_capacity front.service.copiers
+        ≤ vec_capacity result.1.service.copiers }
 {
     if planners == 0 {
         return with_movers(rt, alloc, turn, pass, movers, front, serving);
@@ -172,16 +179,20 @@ where
                 × HasPlannedOnce turn.entry.now.start.file own result }
         { plan_once(rt, alloc, turn, own) },
         move || -> (Pass<Book<A>>, Front<K, L, N>, FrontEnd)
-            requires { Belongs turn.now pass × (movers + links_of serving ≤ vec_len front.service.copiers)
-                × (fewer + (movers + links_of serving) < pass.parts) × (front.service.served.items ≡ [])
+            requires { Belongs turn.now pass
+                × (movers + links_of serving ≤ vec_len front.service.copiers)
+                × (fewer + (movers + links_of serving) < pass.parts)
+                × (front.service.served.items ≡ [])
                 × (links_of serving ≤ vec_capacity front.service.served) }
             ensures { Belongs turn.entry.now result.0 × IsLater pass result.0
-                × HasRunAll (λ xs ys. HasFronted (HasAnswered turn.entry.now.start.file (links_asked serving)
+                × HasRunAll
+                (λ xs ys. HasFronted
+                (HasAnswered turn.entry.now.start.file (links_asked serving)
                 (front_told K.Copier L.Source L.Sink N.Listener front)
                 (front_told K.Copier L.Source L.Sink N.Listener result.1)
-                (served_told N.Conn.Source N.Conn.Sink result.1.service.served.items) result.2 xs ys))
-                turn.entry.now.start.file pass result.0 (copiers_told K.Copier front)
-                (copiers_told K.Copier result.1) movers fewer
+                (served_told N.Conn.Source N.Conn.Sink result.1.service.served.items)
+                result.2 xs ys)) turn.entry.now.start.file pass result.0
+                (copiers_told K.Copier front) (copiers_told K.Copier result.1) movers fewer
                 × (vec_len result.1.service.copiers ≡ vec_len front.service.copiers)
                 × (vec_capacity front.service.copiers ≤ vec_capacity result.1.service.copiers) }
         { with_workers(rt, alloc, turn, pass, movers, fewer, front, serving) },

@@ -85,7 +85,8 @@ where
         (served_told N.Conn.Source N.Conn.Sink result.1.service.served.items) result.2
         (copiers_told K.Copier front) (copiers_told K.Copier result.1) pass result.0 }
     ensures count { vec_len result.1.service.copiers ≡ vec_len front.service.copiers }
-    ensures copiers_room { vec_capacity front.service.copiers ≤ vec_capacity result.1.service.copiers }
+    ensures copiers_room { vec_capacity front.service.copiers
+        ≤ vec_capacity result.1.service.copiers }
 {
     let Front {
         copier,
@@ -148,7 +149,8 @@ where
         (served_told N.Conn.Source N.Conn.Sink result.1.service.served.items) result.2
         (copiers_told K.Copier front) (copiers_told K.Copier result.1)) pass result.0 }
     ensures count { vec_len result.1.service.copiers ≡ vec_len front.service.copiers }
-    ensures copiers_room { vec_capacity front.service.copiers ≤ vec_capacity result.1.service.copiers }
+    ensures copiers_room { vec_capacity front.service.copiers
+        ≤ vec_capacity result.1.service.copiers }
 {
     let (mut pass, front, end) = answer(rt, alloc, turn, pass, front, serving);
     close(rt, turn, &mut pass);

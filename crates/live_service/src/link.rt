@@ -12,11 +12,12 @@ use mover_workers::Caller;
 use rest_session::{LinkEnd, serve};
 use std::alloc::Global;
 use std::sync::Wait;
+use std::thread::Threads;
 use turn_book::{Pass, Turn};
 
 /// Answers the requests of a link in their order, each by the reply to its own entries, until the link ends. The pass comes back with
 /// these entries.
-pub fn serve_link<A: Admin, K: Copier, L: Link, R: Wait>(
+pub fn serve_link<A: Admin, K: Copier, L: Link, R: Threads + Wait + Sync>(
     rt: &R,
     alloc: Global,
     turn: &Turn<Book<A>>,
@@ -29,8 +30,8 @@ pub fn serve_link<A: Admin, K: Copier, L: Link, R: Wait>(
     ensures later { IsLater pass result.0 }
     ensures served { HasServed (known_by_pass turn.now.start.file pass)
         (known_by_pass turn.now.start.file result.0) (copies_told K.Copier copier.old)
-        (copies_told K.Copier copier.new) (L.left link.old) (L.written link.old) (L.written link.new)
-        result.1 }
+        (copies_told K.Copier copier.new) (L.left link.old) (L.written link.old)
+        (L.written link.new) result.1 }
     ensures source { L.Source.faults link.old ≤ L.Source.faults link.new }
     ensures sink { L.Sink.faults link.old ≤ L.Sink.faults link.new }
     ensures read_fault { result.1 ≡ LinkEnd.ReadFault
@@ -39,6 +40,6 @@ pub fn serve_link<A: Admin, K: Copier, L: Link, R: Wait>(
         → HasRisen (L.Sink.faults link.old) (L.Sink.faults link.new) }
 {
     let mut caller = Caller::new(rt, turn, pass);
-    let end = serve(alloc, &mut caller, copier, link);
+    let end = serve(rt, alloc, &mut caller, copier, link);
     (caller.into_pass(), end)
 }

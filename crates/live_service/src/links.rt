@@ -44,7 +44,7 @@ where
 }
 
 /// Answers the requests of one link, until it ends.
-pub fn serve_one<A: Admin, K: Copier, C: Link, R: Wait>(
+pub fn serve_one<A: Admin, K: Copier, C: Link, R: Threads + Wait + Sync>(
     rt: &R,
     alloc: Global,
     turn: &Turn<Book<A>>,
@@ -59,8 +59,8 @@ pub fn serve_one<A: Admin, K: Copier, C: Link, R: Wait>(
         (known_by_pass turn.now.start.file result.0) (copies_told K.Copier copier)
         (copies_told K.Copier result.1)
         (C.left link) (C.written link) (C.written result.2.link) result.2.end }
-    ensures cause { HasLinkCause (link_told C.Source C.Sink link) (link_told C.Source C.Sink result.2.link)
-        result.2.end }
+    ensures cause { HasLinkCause (link_told C.Source C.Sink link)
+        (link_told C.Source C.Sink result.2.link) result.2.end }
 {
     let (pass, end) = serve_link(rt, alloc, turn, pass, &mut copier, &mut link);
     (pass, copier, Served { link, end })
@@ -113,15 +113,18 @@ where
     let ((mut pass, mut service, end), (back, copier, served)) = join(
         rt,
         move || -> (Pass<Book<A>>, Service<K, N>, Result<(), Failed>)
-            requires { Belongs turn.now pass × (fewer ≤ vec_len service.copiers) × (fewer < pass.parts)
-                × (service.served.items ≡ []) × (fewer ≤ vec_capacity service.served) }
+            requires { Belongs turn.now pass × (fewer ≤ vec_len service.copiers)
+                × (fewer < pass.parts) × (service.served.items ≡ [])
+                × (fewer ≤ vec_capacity service.served) }
             ensures { Belongs turn.entry.now result.0 × IsLater pass result.0
                 × HasServedLinks turn.entry.now.start.file (N.accepted service.listener)
-                (N.accepted result.1.listener) (map (copies_told K.Copier) service.copiers.items)
+                (N.accepted result.1.listener)
+                (map (copies_told K.Copier) service.copiers.items)
                 (map (copies_told K.Copier) result.1.copiers.items)
                 (served_told N.Conn.Source N.Conn.Sink result.1.served.items) pass result.0
                 × HasCause (N.faults service.listener) (N.faults result.1.listener) result.2
-                × OnOk result.2 (vec_len result.1.served ≡ fewer) × (vec_len result.1.served ≤ fewer)
+                × OnOk result.2 (vec_len result.1.served ≡ fewer)
+                × (vec_len result.1.served ≤ fewer)
                 × (vec_len result.1.copiers ≡ vec_len service.copiers)
                 × (vec_capacity service.copiers ≤ vec_capacity result.1.copiers)
                 × (vec_capacity service.served ≤ vec_capacity result.1.served) }

@@ -132,16 +132,18 @@ where
     ensures lists { IfOk result (λ r. IfSome (A.told r.book.admin)
         (λ lists. lists ≡ lists_now (state_of r.book).desk.exec)) }
     ensures drained { IfOk result (λ r. r.drain ≡ DrainEnd.Drained → IsDone (state_of r.book).desk) }
-    ensures late { IfOk result (λ r. (number : ℕ) → r.drain ≡ DrainEnd.AdminFault number → (1 ≤ r.book.late)
-        ⊎ (18446744073709551615 ≤ r.book.failures)) }
-    ensures count { IfOk result (λ r. vec_len r.front.service.copiers ≡ vec_len front.service.copiers) }
+    ensures late { IfOk result
+        (λ r. (number : ℕ) → r.drain ≡ DrainEnd.AdminFault number
+        → (1 ≤ r.book.late) ⊎ (18446744073709551615 ≤ r.book.failures)) }
+    ensures count { IfOk result
+        (λ r. vec_len r.front.service.copiers ≡ vec_len front.service.copiers) }
     ensures copiers_room { IfOk result
         (λ r. vec_capacity front.service.copiers ≤ vec_capacity r.front.service.copiers) }
     ensures handed_back { IfErr result (λ e. (e.book ≡ book) × (e.front ≡ front)) }
 {
     let (mut book, mut front, end) = share(rt, alloc, book, movers, planners, front, serving)?;
     book.settle();
-    let drain = finish(alloc, &mut book, &mut front.copier);
+    let drain = finish(rt, alloc, &mut book, &mut front.copier);
     let _legal = book.journal();
     let _few = book.failures();
     Ok(Live {

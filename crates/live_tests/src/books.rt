@@ -3,11 +3,11 @@
 ghost use Rattle.std.specs.Prelude.{◌≡◌, []};
 
 use cluster_gate::{FailingAdmin, MemoryCluster};
-use cluster_json::read_cluster;
 use control_core::Book;
 use core_terms::{Event, Reply};
 use std::alloc::Global;
 use std::process::Abort;
+use test_clusters::cluster;
 
 /// A cluster in memory, of whose calls some fail.
 pub type TestCluster = FailingAdmin<MemoryCluster>;
@@ -20,9 +20,7 @@ pub type TestBook = Book<TestCluster>;
 pub fn book_of<R: Abort>(rt: &R, alloc: Global, text: &str, failing: &[u64]) -> TestBook
     ensures opened { result.journal ≡ [] }
 {
-    let Ok(file) = read_cluster(alloc, text.as_bytes()) else {
-        panic!(rt; "no cluster");
-    };
+    let file = cluster(alloc, text).expect(rt, "cluster");
     let Ok(failing) = failing.to_vec(alloc) else {
         panic!(rt; "no memory");
     };

@@ -7,6 +7,7 @@ use mover_rounds::ToPlan;
 use rest_replies::{Told, reply_bytes};
 use std::alloc::Global;
 use std::process::Abort;
+use std::thread::Threads;
 
 /// What a book told at its end.
 #[derive(Drop)]
@@ -44,20 +45,30 @@ fn receipt_again<R: Abort>(rt: &R, alloc: Global, receipt: &Receipt) -> Receipt 
 }
 
 // The plan for a job, made again.
-fn planned_again<R: Abort>(rt: &R, alloc: Global, ticket: u64, job: &Option<ToPlan>) -> Event {
+fn planned_again<R: Threads + Sync + Abort>(
+    rt: &R,
+    alloc: Global,
+    ticket: u64,
+    job: &Option<ToPlan>,
+) -> Event {
     let Some(job) = job else {
         panic!(rt; "no job");
     };
     assert_eq!(rt; job.ticket, ticket);
     let problem = &job.problem;
-    let Ok(plan) = optimise(alloc, problem.case(), problem.start(), problem.goals()) else {
+    let Ok(plan) = optimise(rt, alloc, problem.case(), problem.start(), problem.goals()) else {
         panic!(rt; "no plan");
     };
     Event::Planned(ticket, plan)
 }
 
 // An event like this one. A plan is made again, for the job that was given last.
-fn again<R: Abort>(rt: &R, alloc: Global, event: &Event, job: &Option<ToPlan>) -> Event {
+fn again<R: Threads + Sync + Abort>(
+    rt: &R,
+    alloc: Global,
+    event: &Event,
+    job: &Option<ToPlan>,
+) -> Event {
     match event {
         Event::Submit(ask, id) => Event::Submit(ask.copy(alloc).expect(rt, "memory"), *id),
         Event::Show(query) => Event::Show(*query),
@@ -91,7 +102,7 @@ impl Replay {
 
 // Takes the events of a journal into a fresh book of the same cluster file, none of which is refused. The lists are the same in the
 // end. Answers the replies to requests.
-fn replayed<R: Abort>(
+fn replayed<R: Threads + Sync + Abort>(
     rt: &R,
     alloc: Global,
     text: &str,
@@ -132,7 +143,12 @@ fn failed_copies(journal: &[Event]) -> usize {
 }
 
 /// What a book of this cluster file tells at its end. Its journal is replayed, and the book let go.
-pub fn end_of<R: Abort>(rt: &R, alloc: Global, text: &str, book: TestBook) -> BookEnd {
+pub fn end_of<R: Threads + Sync + Abort>(
+    rt: &R,
+    alloc: Global,
+    text: &str,
+    book: TestBook,
+) -> BookEnd {
     let lists = lists_of(rt, alloc, &book);
     let replies = replayed(rt, alloc, text, book.journal(), &lists);
     let failed_copies = failed_copies(book.journal());

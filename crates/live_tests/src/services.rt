@@ -132,7 +132,7 @@ where
 }
 
 // What came of a service that is over.
-fn ended<K, L, N: Listener, R: Abort>(
+fn ended<K, L, N: Listener, R: Threads + Sync + Abort>(
     rt: &R,
     alloc: Global,
     text: &str,

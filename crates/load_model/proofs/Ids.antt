@@ -6,10 +6,9 @@ use Rattle.std.proofs.lemmas.List.Quantifiers.{position-Some}
 use Rattle.std.proofs.lemmas.List.{length-map}
 use Rattle.std.proofs.lemmas.List.Folds.{list_any-append}
 use Rattle.plan_terms.specs.Faults.{repeat_from, first_repeat, case_fault, broker_repeat, same_id, IsCase}
-use Rattle.plan_terms.specs.Cluster.{Cluster}
-use Rattle.plan_terms.proofs.FaultLemmas.{first_of-None}
+use Rattle.plan_terms.specs.Cluster.{Cluster, id_at}
+use Rattle.plan_terms.proofs.FaultLemmas.{option_or-None}
 use Rattle.plan_terms.specs.declared.cluster.Broker.{Broker}
-use Rattle.load_model.specs.Places.{id_at}
 use Rattle.load_model.proofs.Listed.{or_parts, position-map}
 use Rattle.load_model.proofs.Repetition.{first_repeat-map}
 
@@ -48,7 +47,7 @@ none_from f (Some x) h = absurd cc
 
 no_repeat : (c : Cluster) → IsCase c → first_repeat same_id c.brokers ≡ None
 unfolding case_fault broker_repeat
-no_repeat c h = none_from _ (first_repeat same_id c.brokers) (first_of-None _ _ (first_of-None _ _ h.faultless).1).0
+no_repeat c h = none_from _ (first_repeat same_id c.brokers) (option_or-None _ _ (option_or-None _ _ h.faultless).1).0
 
 -- no two places have the same id
 pub ids-once : (c : Cluster) → IsCase c → (i j : ℕ) → i < length c.brokers → j < length c.brokers → id_at c.brokers i ≡ id_at c.brokers j → i ≡ j

@@ -4,7 +4,7 @@ use Rattle.std.specs.List.{count_by}
 use Rattle.std.proofs.lemmas.Bool.{cases_eq, ne_eqb, eq-eqb}
 use Rattle.std.proofs.lemmas.List.{get_or-set_same, get_or-set_other, length-set, length-take, set-set, take_more}
 use Rattle.std.proofs.lemmas.List.Sums.{sum_by_push, sum_by-set}
-use Rattle.plan_terms.specs.Cluster.{Cluster, Lists, list_of}
+use Rattle.plan_terms.specs.Cluster.{Cluster, Lists, list_of, id_at}
 use Rattle.plan_terms.specs.Effect.{exchange_at}
 use Rattle.plan_terms.specs.Faults.{IsCase, topics}
 use Rattle.plan_terms.specs.Load.{list_load, sum_parts}
@@ -12,7 +12,7 @@ use Rattle.plan_terms.specs.declared.cluster.Part.{Part}
 use Rattle.load_model.specs.declared.amounts.Amount.{Amount}
 use Rattle.load_model.specs.declared.amounts.Amount.TheVariants.{Load, Replicas, Leaders, PotentialOut, LeaderIn, OfTopic, LedInTopic}
 use Rattle.load_model.specs.Amounts.{InRange, amount, lead_of, follow_of, lead_at, follow_at, share}
-use Rattle.load_model.specs.Places.{id_at, topic_at, topic_of}
+use Rattle.load_model.specs.Places.{topic_at, topic_of}
 use Rattle.load_model.specs.Tables.{AreBelow, IsChanged, IsTable, column, columns, kind_at, put_on, weight_at}
 use Rattle.load_model.proofs.Sums.{Short, amount-below, topic_test, weight-below}
 

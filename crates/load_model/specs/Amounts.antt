@@ -7,6 +7,7 @@ use Rattle.plan_terms.specs.declared.cluster.Part.{Part}
 use Rattle.load_model.specs.Places.{topic_at}
 use Rattle.load_model.specs.declared.amounts.Amount.{Amount}
 use Rattle.load_model.specs.declared.amounts.Amount.TheVariants.{Load, Replicas, Leaders, PotentialOut, LeaderIn, OfTopic, LedInTopic}
+use Rattle.plan_terms.specs.Resources.{NW_IN, NW_OUT}
 
 -- the resource is one of the four, and the topic one of the topics
 abbrev pub InRange : Amount → List Part → Type 0
@@ -23,8 +24,8 @@ abbrev pub lead_of : Amount → List Part → Part → ℕ
 lead_of (Load r) parts p = slice_index p.loads.lead r
 lead_of Replicas parts p = 1
 lead_of Leaders parts p = 1
-lead_of PotentialOut parts p = slice_index p.loads.lead 2
-lead_of LeaderIn parts p = slice_index p.loads.lead 1
+lead_of PotentialOut parts p = slice_index p.loads.lead NW_OUT
+lead_of LeaderIn parts p = slice_index p.loads.lead NW_IN
 lead_of (OfTopic t) parts p = if bytes_eq p.topic (topic_at parts t) then 1 else 0
 lead_of (LedInTopic t) parts p = if bytes_eq p.topic (topic_at parts t) then 1 else 0
 
@@ -33,7 +34,7 @@ abbrev pub follow_of : Amount → List Part → Part → ℕ
 follow_of (Load r) parts p = slice_index p.loads.follow r
 follow_of Replicas parts p = 1
 follow_of Leaders parts p = 0
-follow_of PotentialOut parts p = slice_index p.loads.lead 2
+follow_of PotentialOut parts p = slice_index p.loads.lead NW_OUT
 follow_of LeaderIn parts p = 0
 follow_of (OfTopic t) parts p = if bytes_eq p.topic (topic_at parts t) then 1 else 0
 follow_of (LedInTopic t) parts p = 0

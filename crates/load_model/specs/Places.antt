@@ -4,12 +4,7 @@ use Rattle.std.specs.List.{count_by}
 use Rattle.plan_terms.specs.Cluster.{Cluster}
 use Rattle.plan_terms.specs.Faults.{IsCase, topics}
 use Rattle.plan_terms.specs.States.{is_new}
-use Rattle.plan_terms.specs.declared.cluster.Broker.{Broker}
 use Rattle.plan_terms.specs.declared.cluster.Part.{Part}
-
--- the id of the broker at place i
-abbrev pub id_at : List Broker → ℕ → ℕ
-id_at brokers i = get_or (map (λ b. b.id) brokers) i 0
 
 -- the topic of the partition at place p
 abbrev pub topic_of : List Part → ℕ → List ℕ

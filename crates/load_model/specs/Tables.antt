@@ -1,10 +1,9 @@
 -- The table of a book: a row for each broker, with a number for each kind of amount.
 use Rattle.std.specs.Prelude.{◌≡◌, ◌+◌, ◌*◌, ◌<◌, ◌==◌, ℕ, Bool, List, [], length, map, get_or, nat_lt, if◌then◌else◌}
-use Rattle.plan_terms.specs.Cluster.{Cluster, Lists}
+use Rattle.plan_terms.specs.Cluster.{Cluster, Lists, id_at}
 use Rattle.plan_terms.specs.Faults.{topics}
 use Rattle.plan_terms.specs.declared.cluster.Part.{Part}
 use Rattle.load_model.specs.Amounts.{InRange, amount, lead_at, follow_at}
-use Rattle.load_model.specs.Places.{id_at}
 use Rattle.load_model.specs.declared.amounts.Amount.{Amount}
 use Rattle.load_model.specs.declared.amounts.Amount.TheVariants.{Load, Replicas, Leaders, PotentialOut, LeaderIn, OfTopic, LedInTopic}
 

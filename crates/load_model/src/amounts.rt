@@ -5,6 +5,7 @@ ghost use Rattle.plan_terms.specs.Load.{list_load};
 ghost use Rattle.load_model.specs.Amounts.{InRange, amount, counts_places, lead_at, follow_at};
 
 use crate::{Assign, Case};
+use plan_terms::resources;
 
 /// What is added up over a broker's places.
 #[derive(Clone, Copy)]
@@ -73,8 +74,8 @@ pub fn weights_at(case: &Case, kind: Amount, part: usize) -> Weights
         },
         Amount::Replicas => evenly(1),
         Amount::Leaders => at_first(1),
-        Amount::PotentialOut => evenly(loads.lead[2]),
-        Amount::LeaderIn => at_first(loads.lead[1]),
+        Amount::PotentialOut => evenly(loads.lead[resources::NW_OUT]),
+        Amount::LeaderIn => at_first(loads.lead[resources::NW_IN]),
         Amount::OfTopic(topic) => evenly(one_if(case.topic(part) == topic)),
         Amount::LedInTopic(topic) => at_first(one_if(case.topic(part) == topic)),
     }

@@ -6,7 +6,7 @@ ghost use Rattle.plan_terms.specs.Effect.{exchange_at};
 ghost use Rattle.plan_terms.specs.Faults.{member_fault, list_fault, lists_fault};
 
 use crate::Case;
-use plan_terms::{CaseFault, Limit, Memory, Replicas};
+use plan_terms::{CaseFault, Limit, Memory, Replicas, copy_lists, has};
 use std::alloc::Global;
 use std::marker::Model;
 
@@ -36,12 +36,6 @@ fn is_known(case: &Case, broker: u32) -> bool
     case.broker(broker).is_some()
 }
 
-fn has_member(list: &[u32], broker: u32) -> bool
-    ensures { result ≡ has list.now broker }
-{
-    list.contains(&broker)
-}
-
 fn first_member_fault(case: &Case, part: usize, list: &[u32]) -> Option<CaseFault>
     ensures { result ≡ member_fault case.now part [] list.now }
 {
@@ -49,7 +43,7 @@ fn first_member_fault(case: &Case, part: usize, list: &[u32]) -> Option<CaseFaul
         if !is_known(case, *broker) {
             return Some(CaseFault::UnknownBroker(part, *broker));
         }
-        if has_member(&list[..i], *broker) {
+        if has(&list[..i], *broker) {
             return Some(CaseFault::DuplicateReplica(part, *broker));
         }
     }
@@ -92,16 +86,6 @@ fn replica_lists(alloc: Global, lists: Vec<Vec<u32>>) -> Result<Vec<Replicas>, M
     Ok(named)
 }
 
-fn copy_lists(alloc: Global, lists: &[Replicas]) -> Result<Vec<Replicas>, Memory>
-    ensures { IfOk result (λ v. v.items ≡ lists.now) }
-{
-    let mut copies = Vec::new(alloc);
-    for list in lists {
-        copies.push(list.copy(alloc)?)?;
-    }
-    Ok(copies)
-}
-
 impl Assign {
     /// The assignment of these lists to the case's partitions, or their first fault. Of each list in order: it is
     /// empty; it has more than 8 members; then, member by member, it is unknown, or it stands there already.
@@ -109,8 +93,11 @@ impl Assign {
         requires one_each { length lists.items ≡ length case.now.parts }
         ensures ok { IfOk result (λ a. a ≡ map (λ list. list.items) lists.items) }
         ensures belongs { IfOk result (Belongs case.now) }
-        ensures faultless { OnOk result (lists_fault case.now (map (λ list. list.items) lists.items) ≡ None) }
-        ensures fault { IfErr result (λ e. e ≢ CaseFault.Memory → lists_fault case.now (map (λ list. list.items) lists.items) ≡ Some e) }
+        ensures faultless { OnOk result
+            (lists_fault case.now (map (λ list. list.items) lists.items) ≡ None) }
+        ensures fault { IfErr result
+            (λ e. e ≢ CaseFault.Memory
+            → lists_fault case.now (map (λ list. list.items) lists.items) ≡ Some e) }
     {
         let _few = case.parts();
         let lists = replica_lists(alloc, lists)?;
@@ -164,7 +151,8 @@ impl Assign {
         requires part { part < length self.old }
         requires place { place < length (list_of self.old part) }
         requires new { has (list_of self.old part) broker ≡ false }
-        ensures { self.new ≡ slice_set self.old part (slice_set (list_of self.old part) place broker) }
+        ensures { self.new
+            ≡ slice_set self.old part (slice_set (list_of self.old part) place broker) }
     {
         self.lists[part].put(place, broker);
     }

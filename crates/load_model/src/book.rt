@@ -1,13 +1,14 @@
 // The lists of a plan in the making, with what they put on brokers.
 ghost use Rattle.std.specs.Prelude.{◌≡◌, ◌<◌, ◌≤◌, ◌^◌, IfOk, IsTrue, bytes_eq, length, slice_index, slice_set, true, false, if◌then◌else◌};
 ghost use Rattle.plan_terms.specs.Belongs.{Belongs, IsAssignment};
-ghost use Rattle.plan_terms.specs.Cluster.{list_of, has, is_known};
+ghost use Rattle.plan_terms.specs.Cluster.{list_of, has, is_known, id_at};
 ghost use Rattle.plan_terms.specs.Effect.{exchange_at};
 ghost use Rattle.plan_terms.specs.Faults.{IsCase, topics};
 ghost use Rattle.plan_terms.specs.Load.{count, leaders, load, leader_in, potential_out, topic_count, topic_leaders};
 ghost use Rattle.load_model.specs.Amounts.{InRange, amount, counts_places, follow_of, lead_of};
-ghost use Rattle.load_model.specs.Places.{id_at, topic_at};
+ghost use Rattle.load_model.specs.Places.{topic_at};
 ghost use Rattle.load_model.specs.Totals.{whole};
+ghost use Rattle.plan_terms.specs.Resources.{NW_IN, NW_OUT};
 
 use crate::amounts::Amount;
 use crate::table::{Row, Table};
@@ -119,7 +120,9 @@ impl LoadBook {
     fn amount(&self, kind: Amount, broker: usize) -> u64
         requires broker { broker < length self.now.cluster.brokers }
         requires range { InRange kind self.now.cluster.parts }
-        ensures value { result ≡ amount kind self.now.cluster.parts (id_at self.now.cluster.brokers broker) self.now.lists }
+        ensures value { result
+            ≡ amount kind self.now.cluster.parts (id_at self.now.cluster.brokers broker)
+            self.now.lists }
         ensures small { result < 2 ^ 49 }
         ensures few { counts_places kind ≡ true → result ≤ 80000 }
     {
@@ -133,7 +136,8 @@ impl LoadBook {
     pub fn load(&self, broker: usize, res: usize) -> u128
         requires broker { broker < length self.now.cluster.brokers }
         requires res { res < 4 }
-        ensures value { result ≡ load self.now.cluster res (id_at self.now.cluster.brokers broker) self.now.lists }
+        ensures value { result
+            ≡ load self.now.cluster res (id_at self.now.cluster.brokers broker) self.now.lists }
         ensures small { result < 2 ^ 49 }
     {
         u128::from(self.amount(Amount::Load(res), broker))
@@ -163,7 +167,8 @@ impl LoadBook {
     /// all its places. Below 2^49.
     pub fn potential_out(&self, broker: usize) -> u128
         requires { broker < length self.now.cluster.brokers }
-        ensures value { result ≡ potential_out self.now.cluster (id_at self.now.cluster.brokers broker) self.now.lists }
+        ensures value { result
+            ≡ potential_out self.now.cluster (id_at self.now.cluster.brokers broker) self.now.lists }
         ensures small { result < 2 ^ 49 }
     {
         u128::from(self.amount(Amount::PotentialOut, broker))
@@ -172,7 +177,8 @@ impl LoadBook {
     /// The leaders' NW_IN over the partitions that a broker leads. Below 2^49.
     pub fn leader_in(&self, broker: usize) -> u128
         requires { broker < length self.now.cluster.brokers }
-        ensures value { result ≡ leader_in self.now.cluster (id_at self.now.cluster.brokers broker) self.now.lists }
+        ensures value { result
+            ≡ leader_in self.now.cluster (id_at self.now.cluster.brokers broker) self.now.lists }
         ensures small { result < 2 ^ 49 }
     {
         u128::from(self.amount(Amount::LeaderIn, broker))
@@ -182,7 +188,9 @@ impl LoadBook {
     pub fn topic_count(&self, topic: usize, broker: usize) -> u64
         requires topic { topic < length (topics self.now.cluster.parts) }
         requires broker { broker < length self.now.cluster.brokers }
-        ensures value { result ≡ topic_count self.now.cluster (topic_at self.now.cluster.parts topic) (id_at self.now.cluster.brokers broker) self.now.lists }
+        ensures value { result
+            ≡ topic_count self.now.cluster (topic_at self.now.cluster.parts topic)
+            (id_at self.now.cluster.brokers broker) self.now.lists }
         ensures few { result ≤ 80000 }
     {
         self.amount(Amount::OfTopic(topic), broker)
@@ -192,7 +200,9 @@ impl LoadBook {
     pub fn topic_leaders(&self, topic: usize, broker: usize) -> u64
         requires topic { topic < length (topics self.now.cluster.parts) }
         requires broker { broker < length self.now.cluster.brokers }
-        ensures value { result ≡ topic_leaders self.now.cluster (topic_at self.now.cluster.parts topic) (id_at self.now.cluster.brokers broker) self.now.lists }
+        ensures value { result
+            ≡ topic_leaders self.now.cluster (topic_at self.now.cluster.parts topic)
+            (id_at self.now.cluster.brokers broker) self.now.lists }
         ensures few { result ≤ 80000 }
     {
         self.amount(Amount::LedInTopic(topic), broker)
@@ -201,7 +211,9 @@ impl LoadBook {
     // What all brokers carry together.
     fn total(&self, kind: Amount) -> u64
         requires { InRange kind self.now.cluster.parts }
-        ensures value { result ≡ whole (lead_of kind self.now.cluster.parts) (follow_of kind self.now.cluster.parts) self.now.cluster.parts self.now.lists }
+        ensures value { result
+            ≡ whole (lead_of kind self.now.cluster.parts) (follow_of kind self.now.cluster.parts)
+            self.now.cluster.parts self.now.lists }
         ensures small { result < 2 ^ 49 }
         ensures few { counts_places kind ≡ true → result ≤ 80000 }
     {
@@ -214,7 +226,9 @@ impl LoadBook {
     /// 2^49.
     pub fn total_load(&self, res: usize) -> u128
         requires { res < 4 }
-        ensures value { result ≡ whole (λ p. slice_index p.loads.lead res) (λ p. slice_index p.loads.follow res) self.now.cluster.parts self.now.lists }
+        ensures value { result
+            ≡ whole (λ p. slice_index p.loads.lead res) (λ p. slice_index p.loads.follow res)
+            self.now.cluster.parts self.now.lists }
         ensures small { result < 2 ^ 49 }
     {
         u128::from(self.total(Amount::Load(res)))
@@ -238,7 +252,9 @@ impl LoadBook {
 
     /// What all brokers would send to clients together, if each led all partitions of which it is a member. Below 2^49.
     pub fn total_potential_out(&self) -> u128
-        ensures value { result ≡ whole (λ p. slice_index p.loads.lead 2) (λ p. slice_index p.loads.lead 2) self.now.cluster.parts self.now.lists }
+        ensures value { result
+            ≡ whole (λ p. slice_index p.loads.lead NW_OUT) (λ p. slice_index p.loads.lead NW_OUT)
+            self.now.cluster.parts self.now.lists }
         ensures small { result < 2 ^ 49 }
     {
         u128::from(self.total(Amount::PotentialOut))
@@ -246,7 +262,9 @@ impl LoadBook {
 
     /// The leaders' NW_IN over all partitions. Below 2^49.
     pub fn total_leader_in(&self) -> u128
-        ensures value { result ≡ whole (λ p. slice_index p.loads.lead 1) (λ _. 0) self.now.cluster.parts self.now.lists }
+        ensures value { result
+            ≡ whole (λ p. slice_index p.loads.lead NW_IN) (λ _. 0) self.now.cluster.parts
+            self.now.lists }
         ensures small { result < 2 ^ 49 }
     {
         u128::from(self.total(Amount::LeaderIn))
@@ -255,7 +273,10 @@ impl LoadBook {
     /// The number of a topic's replicas, by the topic's place among the topics. At most 80,000.
     pub fn total_topic_count(&self, topic: usize) -> u64
         requires { topic < length (topics self.now.cluster.parts) }
-        ensures value { result ≡ whole (λ p. if bytes_eq p.topic (topic_at self.now.cluster.parts topic) then 1 else 0) (λ p. if bytes_eq p.topic (topic_at self.now.cluster.parts topic) then 1 else 0) self.now.cluster.parts self.now.lists }
+        ensures value { result
+            ≡ whole (λ p. if bytes_eq p.topic (topic_at self.now.cluster.parts topic) then 1 else 0)
+            (λ p. if bytes_eq p.topic (topic_at self.now.cluster.parts topic) then 1 else 0)
+            self.now.cluster.parts self.now.lists }
         ensures few { result ≤ 80000 }
     {
         self.total(Amount::OfTopic(topic))
@@ -264,7 +285,9 @@ impl LoadBook {
     /// The number of a topic's leaders, by the topic's place among the topics. At most 80,000.
     pub fn total_topic_leaders(&self, topic: usize) -> u64
         requires { topic < length (topics self.now.cluster.parts) }
-        ensures value { result ≡ whole (λ p. if bytes_eq p.topic (topic_at self.now.cluster.parts topic) then 1 else 0) (λ _. 0) self.now.cluster.parts self.now.lists }
+        ensures value { result
+            ≡ whole (λ p. if bytes_eq p.topic (topic_at self.now.cluster.parts topic) then 1 else 0)
+            (λ _. 0) self.now.cluster.parts self.now.lists }
         ensures few { result ≤ 80000 }
     {
         self.total(Amount::LedInTopic(topic))
@@ -276,7 +299,10 @@ impl LoadBook {
         requires place { place < length (list_of self.old.lists part) }
         requires new { has (list_of self.old.lists part) broker ≡ false }
         requires known { IsTrue (is_known case.now broker) }
-        ensures { self.new ≡ record self.old { lists = slice_set self.old.lists part (slice_set (list_of self.old.lists part) place broker) } }
+        ensures { self.new
+            ≡ record self.old {
+              lists = slice_set self.old.lists part (slice_set (list_of self.old.lists part) place broker);
+            } }
     {
         let _parts = self.case.parts();
         let _assignment = self.lists.lists();
@@ -289,7 +315,10 @@ impl LoadBook {
     pub fn exchange(&mut self, case: &Case, part: usize, place: usize)
         requires part { part < length self.old.lists }
         requires place { place < length (list_of self.old.lists part) }
-        ensures { self.new ≡ record self.old { lists = slice_set self.old.lists part (exchange_at place (list_of self.old.lists part)) } }
+        ensures { self.new
+            ≡ record self.old {
+              lists = slice_set self.old.lists part (exchange_at place (list_of self.old.lists part));
+            } }
     {
         let _parts = self.case.parts();
         let _assignment = self.lists.lists();

@@ -1,12 +1,13 @@
 // Brokers and partitions of a cluster, as one request sees them.
 ghost use Rattle.std.specs.Prelude.{◌≡◌, ◌≤◌, ◌<◌, ◌^◌, ◌≢◌, ℕ, None, Some, IfOk, IfErr, OnOk, length, map, option_map, position, slice_index, ◌==◌, ◌+◌, if◌then◌else◌};
 ghost use Rattle.std.specs.List.{All, count_by};
-ghost use Rattle.plan_terms.specs.Cluster.{broker_of};
+ghost use Rattle.plan_terms.specs.Cluster.{broker_of, id_at, some_broker};
 ghost use Rattle.plan_terms.specs.Faults.{IsCase, case_fault, cluster_fault, leaders_repeat, topics};
-ghost use Rattle.plan_terms.specs.Legal.{any_new};
-ghost use Rattle.plan_terms.specs.States.{is_new};
+ghost use Rattle.plan_terms.specs.Legal.{any_new, is_live, is_lost};
+ghost use Rattle.plan_terms.specs.States.{is_demoted, is_new};
 ghost use Rattle.load_model.specs.Changed.{with_state, with_loads, with_excluded};
-ghost use Rattle.load_model.specs.Places.{AreTopicPlaces, id_at, topic_at, topic_of};
+ghost use Rattle.load_model.specs.Places.{AreTopicPlaces, topic_at, topic_of};
+ghost use Rattle.plan_terms.specs.Resources.{NW_OUT};
 
 use crate::limits::broken_limit;
 use crate::repeats::{broker_ids, leaders_repeat, part_repeat};
@@ -37,9 +38,15 @@ impl Model for Case {
 
     ghost Value = { Cluster };
 
-    ghost view = { λ c. record { brokers = c.brokers.items; parts = c.parts.items; options = c.options } };
+    ghost view = { λ c. record {
+      brokers = c.brokers.items;
+      parts = c.parts.items;
+      options = c.options;
+    } };
 
-    ghost invariant = { λ c. IsIndexed (record { brokers = c.brokers.items; parts = c.parts.items; options = c.options }) c.ids.keys c.topics.places.items c.topics.count c.being_added };
+    ghost invariant = { λ c. IsIndexed
+        (record { brokers = c.brokers.items; parts = c.parts.items; options = c.options })
+        c.ids.keys c.topics.places.items c.topics.count c.being_added };
 }
 
 // What a case keeps beside its brokers and partitions, or their first fault.
@@ -52,7 +59,8 @@ fn index_of(
     ensures ids { IfOk result (λ kept. kept.0.keys ≡ map (λ b. b.id) brokers.now) }
     ensures places { IfOk result (λ kept. AreTopicPlaces parts.now kept.1.places.items kept.1.count) }
     ensures faultless { OnOk result (case_fault brokers.now parts.now ≡ None) }
-    ensures fault { IfErr result (λ e. e ≢ CaseFault.Memory → case_fault brokers.now parts.now ≡ Some e) }
+    ensures fault { IfErr result
+        (λ e. e ≢ CaseFault.Memory → case_fault brokers.now parts.now ≡ Some e) }
 {
     let topics = number_topics(alloc, parts)?;
     if let Some(limit) = broken_limit(brokers, parts, topics.count) {
@@ -111,10 +119,12 @@ impl Case {
         parts: Vec<Part>,
         options: Options,
     ) -> Result<Case, CaseFault>
-        requires followers { All (λ p. slice_index p.loads.follow 2 ≡ 0) parts.items }
-        ensures ok { IfOk result (λ c. c ≡ record { brokers = brokers.items; parts = parts.items; options = options }) }
+        requires followers { All (λ p. slice_index p.loads.follow NW_OUT ≡ 0) parts.items }
+        ensures ok { IfOk result
+            (λ c. c ≡ record { brokers = brokers.items; parts = parts.items; options = options }) }
         ensures faultless { OnOk result (cluster_fault brokers.items parts.items options ≡ None) }
-        ensures fault { IfErr result (λ e. e ≢ CaseFault.Memory → cluster_fault brokers.items parts.items options ≡ Some e) }
+        ensures fault { IfErr result
+            (λ e. e ≢ CaseFault.Memory → cluster_fault brokers.items parts.items options ≡ Some e) }
     {
         let (ids, topics) = index_of(alloc, &brokers, &parts)?;
         if let Some(fault) = leaders_repeat(alloc, options.min_leaders.as_slice())? {
@@ -161,7 +171,8 @@ impl Case {
     /// The place of the broker of this id.
     pub fn place(&self, id: u32) -> Option<usize>
         ensures place { result ≡ position (λ b. b.id == id) self.now.brokers }
-        ensures only { (k : ℕ) → k < length self.now.brokers → id_at self.now.brokers k ≡ id → result ≡ Some k }
+        ensures only { (k : ℕ) → k < length self.now.brokers → id_at self.now.brokers k ≡ id
+            → result ≡ Some k }
     {
         self.ids.get_index_of(&id)
     }
@@ -173,6 +184,46 @@ impl Case {
         match self.place(id) {
             Some(place) => Some(&self.brokers[place]),
             None => None,
+        }
+    }
+
+    /// Whether the broker is one of the case, and not lost.
+    pub fn is_live(&self, id: u32) -> bool
+        ensures { result ≡ is_live self.now id }
+    {
+        match self.broker(id) {
+            Some(broker) => !broker.state.is_dead(),
+            None => false,
+        }
+    }
+
+    /// Whether the broker is one of the case, and lost.
+    pub fn is_lost(&self, id: u32) -> bool
+        ensures { result ≡ is_lost self.now id }
+    {
+        match self.broker(id) {
+            Some(broker) => broker.state.is_dead(),
+            None => false,
+        }
+    }
+
+    /// Whether the broker is one of the case, and being added.
+    pub fn is_new(&self, id: u32) -> bool
+        ensures { result ≡ some_broker (λ b. is_new b.state) self.now id }
+    {
+        match self.broker(id) {
+            Some(broker) => broker.state.is_new(),
+            None => false,
+        }
+    }
+
+    /// Whether the broker is one of the case, and not to lead.
+    pub fn is_demoted(&self, id: u32) -> bool
+        ensures { result ≡ some_broker (λ b. is_demoted b.state) self.now id }
+    {
+        match self.broker(id) {
+            Some(broker) => broker.state.is_demoted(),
+            None => false,
         }
     }
 
@@ -196,7 +247,8 @@ impl Case {
         requires { part < length self.now.parts }
         ensures within { result < length (topics self.now.parts) }
         ensures named { topic_at self.now.parts result ≡ topic_of self.now.parts part }
-        ensures only { (t : ℕ) → t < length (topics self.now.parts) → topic_at self.now.parts t ≡ topic_of self.now.parts part → t ≡ result }
+        ensures only { (t : ℕ) → t < length (topics self.now.parts)
+            → topic_at self.now.parts t ≡ topic_of self.now.parts part → t ≡ result }
     {
         self.topics.places[part]
     }
@@ -216,7 +268,7 @@ impl Case {
         requires part { part < length self.old.parts }
         requires lead { All (λ x. x < 2 ^ 32) loads.lead }
         requires follow { All (λ x. x < 2 ^ 32) loads.follow }
-        requires silent { slice_index loads.follow 2 ≡ 0 }
+        requires silent { slice_index loads.follow NW_OUT ≡ 0 }
         ensures { self.new ≡ record self.old { parts = with_loads self.old.parts part loads } }
     {
         self.parts[part].loads = loads;
@@ -232,7 +284,8 @@ impl Case {
 
     /// Allows leaders alone to change, moves off lost brokers aside, or no longer does.
     pub fn set_leads_only(&mut self, leads_only: bool)
-        ensures { self.new ≡ record self.old { options = record self.old.options { leads_only = leads_only } } }
+        ensures { self.new
+            ≡ record self.old { options = record self.old.options { leads_only = leads_only } } }
     {
         self.options.leads_only = leads_only;
     }

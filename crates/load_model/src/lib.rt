@@ -8,8 +8,6 @@ mod case;
 mod limits;
 mod repeats;
 mod table;
-#[cfg(test)]
-mod tests;
 mod topics;
 
 pub use assign::Assign;

@@ -4,7 +4,7 @@ ghost use Rattle.plan_terms.specs.Faults.{topics};
 ghost use Rattle.plan_terms.specs.Load.{list_load};
 ghost use Rattle.load_model.specs.declared.amounts.Amount.{Amount};
 ghost use Rattle.load_model.specs.Amounts.{InRange, lead_at, follow_at};
-ghost use Rattle.load_model.specs.Places.{id_at};
+ghost use Rattle.plan_terms.specs.Cluster.{id_at};
 ghost use Rattle.load_model.specs.Tables.{AreBelow, AreLong, AreTotals, IsChanged, IsTable, column, columns, kind_at, put_on, weight_at};
 
 use crate::amounts::{Amount, weights_at};
@@ -123,8 +123,10 @@ impl Row {
         requires small { weight < 2 ^ 32 }
         requires enough { gains ≡ false → weight ≤ slice_index self.old column }
         ensures long { length self.new ≡ length self.old }
-        ensures here { slice_index self.new column + (if gains then 0 else weight) ≡ slice_index self.old column + (if gains then weight else 0) }
-        ensures others { (j : ℕ) → (j ≡ column → ⊥) → slice_index self.new j ≡ slice_index self.old j }
+        ensures here { slice_index self.new column + (if gains then 0 else weight)
+            ≡ slice_index self.old column + (if gains then weight else 0) }
+        ensures others { (j : ℕ) → (j ≡ column → ⊥)
+            → slice_index self.new j ≡ slice_index self.old j }
     {
         self.amounts[column] = changed(self.amounts[column], weight, gains);
     }
@@ -135,11 +137,15 @@ impl Row {
         requires part { part < length case.now.parts }
         requires long { length self.old ≡ columns case.now.parts }
         requires fits { slice_index self.old (column kind) < 2 ^ 63 }
-        requires enough { gains ≡ false → weight_at kind case.now.parts part first ≤ slice_index self.old (column kind) }
+        requires enough { gains ≡ false
+            → weight_at kind case.now.parts part first ≤ slice_index self.old (column kind) }
         ensures long { length self.new ≡ length self.old }
-        ensures here { slice_index self.new (column kind) + (if gains then 0 else weight_at kind case.now.parts part first)
-            ≡ slice_index self.old (column kind) + (if gains then weight_at kind case.now.parts part first else 0) }
-        ensures others { (j : ℕ) → (j ≡ column kind → ⊥) → slice_index self.new j ≡ slice_index self.old j }
+        ensures here { slice_index self.new (column kind) +
+            (if gains then 0 else weight_at kind case.now.parts part first)
+            ≡ slice_index self.old (column kind) +
+            (if gains then weight_at kind case.now.parts part first else 0) }
+        ensures others { (j : ℕ) → (j ≡ column kind → ⊥)
+            → slice_index self.new j ≡ slice_index self.old j }
     {
         let weight = weight_at(case, kind, part, first);
         self.change_at(column(case, kind), weight, gains);
@@ -149,9 +155,14 @@ impl Row {
     fn change(&mut self, case: &Case, part: usize, first: bool, gains: bool)
         requires part { part < length case.now.parts }
         requires long { length self.old ≡ columns case.now.parts }
-        requires fits { (kind : Amount) → InRange kind case.now.parts → slice_index self.old (column kind) < 2 ^ 63 }
-        requires enough { gains ≡ false → (kind : Amount) → InRange kind case.now.parts → weight_at kind case.now.parts part first ≤ slice_index self.old (column kind) }
-        ensures { IsChanged case.now.parts (λ kind. if gains then 0 else weight_at kind case.now.parts part first) (λ kind. if gains then weight_at kind case.now.parts part first else 0) self.old self.new }
+        requires fits { (kind : Amount) → InRange kind case.now.parts
+            → slice_index self.old (column kind) < 2 ^ 63 }
+        requires enough { gains ≡ false → (kind : Amount) → InRange kind case.now.parts
+            → weight_at kind case.now.parts part first ≤ slice_index self.old (column kind) }
+        ensures { IsChanged case.now.parts
+            (λ kind. if gains then 0 else weight_at kind case.now.parts part first)
+            (λ kind. if gains then weight_at kind case.now.parts part first else 0) self.old
+            self.new }
     {
         let topic = case.topic(part);
         for j in 0..8 {
@@ -166,9 +177,11 @@ impl Row {
         requires part { part < length case.now.parts }
         requires short { length list.now ≤ 8 }
         requires long { length self.old ≡ columns case.now.parts }
-        requires fits { (kind : Amount) → InRange kind case.now.parts → slice_index self.old (column kind) < 2 ^ 49 }
+        requires fits { (kind : Amount) → InRange kind case.now.parts
+            → slice_index self.old (column kind) < 2 ^ 49 }
         ensures { IsChanged case.now.parts (λ kind. 0)
-            (λ kind. list_load (lead_at kind case.now.parts part) (follow_at kind case.now.parts part) 0 (map (λ _. 0) list.now)) self.old self.new }
+            (λ kind. list_load (lead_at kind case.now.parts part)
+            (follow_at kind case.now.parts part) 0 (map (λ _. 0) list.now)) self.old self.new }
     {
         let _parts = case.parts();
         for place in 0..list.len() {
@@ -233,13 +246,17 @@ impl Table {
         requires one_each { length self.old ≡ length case.now.brokers }
         requires long { AreLong case.now self.old }
         requires fits { AreBelow (2 ^ 63) case.now self.old }
-        requires enough { gains ≡ false → (k : ℕ) → k < length case.now.brokers → (kind : Amount) → InRange kind case.now.parts
-            → put_on id (id_at case.now.brokers k) kind case.now.parts part first ≤ slice_index (get_or self.old k []) (column kind) }
+        requires enough { gains ≡ false → (k : ℕ) → k < length case.now.brokers → (kind : Amount)
+            → InRange kind case.now.parts
+            → put_on id (id_at case.now.brokers k) kind case.now.parts part first
+            ≤ slice_index (get_or self.old k []) (column kind) }
         ensures one_each { length self.new ≡ length self.old }
-        ensures each { (k : ℕ) → k < length case.now.brokers → IsChanged case.now.parts
-            (λ kind. if gains then 0 else put_on id (id_at case.now.brokers k) kind case.now.parts part first)
-            (λ kind. if gains then put_on id (id_at case.now.brokers k) kind case.now.parts part first else 0)
-            (get_or self.old k []) (get_or self.new k []) }
+        ensures each { (k : ℕ) → k < length case.now.brokers
+            → IsChanged case.now.parts
+            (λ kind. if gains then 0 else put_on id (id_at case.now.brokers k) kind
+            case.now.parts part first)
+            (λ kind. if gains then put_on id (id_at case.now.brokers k) kind case.now.parts part
+            first else 0) (get_or self.old k []) (get_or self.new k []) }
     {
         if let Some(broker) = case.place(id) {
             self.rows[broker].change(case, part, first, gains);
@@ -254,8 +271,10 @@ impl Table {
         requires long { AreLong case.now self.old }
         requires fits { AreBelow (2 ^ 49) case.now self.old }
         ensures one_each { length self.new ≡ length self.old }
-        ensures each { (k : ℕ) → k < length case.now.brokers → IsChanged case.now.parts (λ kind. 0)
-            (λ kind. list_load (lead_at kind case.now.parts part) (follow_at kind case.now.parts part) (id_at case.now.brokers k) list.now)
+        ensures each { (k : ℕ) → k < length case.now.brokers
+            → IsChanged case.now.parts (λ kind. 0)
+            (λ kind. list_load (lead_at kind case.now.parts part)
+            (follow_at kind case.now.parts part) (id_at case.now.brokers k) list.now)
             (get_or self.old k []) (get_or self.new k []) }
     {
         let _parts = case.parts();
@@ -270,8 +289,11 @@ impl Table {
         requires one_each { length self.old ≡ length case.now.brokers }
         requires long { AreLong case.now self.old }
         requires fits { AreBelow (2 ^ 62) case.now self.old }
-        requires enough { (k : ℕ) → k < length case.now.brokers → (kind : Amount) → InRange kind case.now.parts
-            → put_on from (id_at case.now.brokers k) kind case.now.parts part first ≤ slice_index (get_or self.old k []) (column kind) + put_on to (id_at case.now.brokers k) kind case.now.parts part first }
+        requires enough { (k : ℕ) → k < length case.now.brokers → (kind : Amount)
+            → InRange kind case.now.parts
+            → put_on from (id_at case.now.brokers k) kind case.now.parts part first
+            ≤ slice_index (get_or self.old k []) (column kind) + put_on to
+            (id_at case.now.brokers k) kind case.now.parts part first }
         ensures one_each { length self.new ≡ length self.old }
         ensures each { (k : ℕ) → k < length case.now.brokers → IsChanged case.now.parts
             (λ kind. put_on from (id_at case.now.brokers k) kind case.now.parts part first)

@@ -7,6 +7,7 @@ use Rattle.metric_windows.specs.declared.tally.Tally.{Tally}
 use Rattle.metric_windows.specs.Averages.{by_resource, total_of, divided}
 use Rattle.plan_terms.specs.Loads.{EachBelow}
 use Rattle.metric_windows.specs.Samples.{AreInRange, later, half, has_neighbours, kept_windows}
+use Rattle.plan_terms.specs.Resources.{NW_OUT}
 use Rattle.plan_terms.specs.declared.settings.WindowRules.{WindowRules}
 
 -- the tally of a list of loads: how many, and their total
@@ -36,7 +37,7 @@ mean t = divided t.sums t.count
 pub record IsTally (t : Tally) : Type 0 where
   pub lead : EachBelow (t.count * 4294967295 + 1) t.sums.lead
   pub follow : EachBelow (t.count * 4294967295 + 1) t.sums.follow
-  pub silent : slice_index t.sums.follow 2 ≡ 0
+  pub silent : slice_index t.sums.follow NW_OUT ≡ 0
 
 -- at most 65,536 samples
 pub record IsCell (c : Cell) : Type 0 where

@@ -4,8 +4,6 @@
 mod cell;
 mod fault;
 mod tally;
-#[cfg(test)]
-mod tests;
 mod windows;
 
 pub use fault::SampleFault;

@@ -39,9 +39,20 @@ impl Model for Windows {
 
     ghost Value = { Tables };
 
-    ghost view = { λ w. record { rules = record { width = w.width; keep = w.keep; least = w.least; need = w.need }; parts = w.parts; newest = w.newest; cells = w.cells.items } };
+    ghost view = { λ w. record {
+      rules = record { width = w.width; keep = w.keep; least = w.least; need = w.need };
+      parts = w.parts;
+      newest = w.newest;
+      cells = w.cells.items;
+    } };
 
-    ghost invariant = { λ w. AreTables (record { rules = record { width = w.width; keep = w.keep; least = w.least; need = w.need }; parts = w.parts; newest = w.newest; cells = w.cells.items }) };
+    ghost invariant = { λ w. AreTables
+        (record {
+          rules = record { width = w.width; keep = w.keep; least = w.least; need = w.need };
+          parts = w.parts;
+          newest = w.newest;
+          cells = w.cells.items;
+        }) };
 }
 
 impl Windows {
@@ -58,8 +69,10 @@ impl Windows {
         least: u32,
         need: u64,
     ) -> Result<Windows, Memory>
-        requires ranges { AreInRange (record { width = width; keep = keep; least = least; need = need }) parts }
-        ensures rules { IfOk result (λ w. w.rules ≡ record { width = width; keep = keep; least = least; need = need }) }
+        requires ranges { AreInRange
+            (record { width = width; keep = keep; least = least; need = need }) parts }
+        ensures rules { IfOk result
+            (λ w. w.rules ≡ record { width = width; keep = keep; least = least; need = need }) }
         ensures parts { IfOk result (λ w. w.parts ≡ parts) }
         ensures empty { IfOk result (λ w. StandsFor w []) }
     {
@@ -158,12 +171,18 @@ impl Windows {
     pub fn add(&mut self, part: u32, time: u64, sample: Loads) -> Result<(), SampleFault>
         requires part { part < self.old.parts }
         requires loads { IsLoads sample }
-        ensures accepts { OnOk result ((samples : List Sample) → StandsFor self.old samples
-            → refusal self.old.rules samples (record { part = part; time = time; loads = sample }) ≡ None) }
-        ensures accepted { OnOk result ((samples : List Sample) → StandsFor self.old samples
-            → StandsFor self.new (samples ++ record { part = part; time = time; loads = sample } ∷ [])) }
-        ensures refused { IfErr result (λ e. (samples : List Sample) → StandsFor self.old samples
-            → refusal self.old.rules samples (record { part = part; time = time; loads = sample }) ≡ Some e) }
+        ensures accepts { OnOk result
+            ((samples : List Sample) → StandsFor self.old samples
+            → refusal self.old.rules samples
+            (record { part = part; time = time; loads = sample }) ≡ None) }
+        ensures accepted { OnOk result
+            ((samples : List Sample) → StandsFor self.old samples
+            → StandsFor self.new
+            (samples ++ record { part = part; time = time; loads = sample } ∷ [])) }
+        ensures refused { IfErr result
+            (λ e. (samples : List Sample) → StandsFor self.old samples
+            → refusal self.old.rules samples
+            (record { part = part; time = time; loads = sample }) ≡ Some e) }
         ensures unchanged { OnErr result (self.new ≡ self.old) }
         ensures rules { self.new.rules ≡ self.old.rules }
         ensures parts { self.new.parts ≡ self.old.parts }
@@ -292,7 +311,8 @@ impl Windows {
     /// both are kept and have `least` samples each (AVG_ADJACENT). It takes no memory.
     pub fn load_of(&self, part: u32) -> Option<Loads>
         requires { part < self.now.parts }
-        ensures value { (samples : List Sample) → StandsFor self.now samples → result ≡ load_of self.now.rules samples part }
+        ensures value { (samples : List Sample) → StandsFor self.now samples
+            → result ≡ load_of self.now.rules samples part }
         ensures loads { IfSome result IsLoads }
     {
         let _ranges = &self.least;
@@ -301,7 +321,8 @@ impl Windows {
 
     /// How many partitions have a load, and how many there are. It takes no memory.
     pub fn coverage(&self) -> (u32, u32)
-        ensures { (samples : List Sample) → StandsFor self.now samples → result ≡ coverage self.now.rules self.now.parts samples }
+        ensures { (samples : List Sample) → StandsFor self.now samples
+            → result ≡ coverage self.now.rules self.now.parts samples }
     {
         let mut valid = 0;
         for part in 0..self.parts {

@@ -52,7 +52,10 @@ fn put_for(book: &mut LoadBook, case: &Case, part: u32, from: u32, to: u32)
     requires member { IsTrue (has (list_of book.old.lists part) from) }
     requires new { has (list_of book.old.lists part) to ≡ false }
     requires known { IsTrue (is_known case.now to) }
-    ensures { book.new ≡ record book.old { lists = slice_set book.old.lists part (replace from to (list_of book.old.lists part)) } }
+    ensures { book.new
+        ≡ record book.old {
+          lists = slice_set book.old.lists part (replace from to (list_of book.old.lists part));
+        } }
 {
     let place = place_of(book.list(part as usize), from);
     book.put(case, part as usize, place, to);
@@ -62,7 +65,10 @@ fn put_for(book: &mut LoadBook, case: &Case, part: u32, from: u32, to: u32)
 fn put_first(book: &mut LoadBook, case: &Case, part: u32, to: u32)
     requires member { IsTrue (has (list_of book.old.lists part) to) }
     requires later { leads (list_of book.old.lists part) to ≡ false }
-    ensures { book.new ≡ record book.old { lists = slice_set book.old.lists part (exchange_first to (list_of book.old.lists part)) } }
+    ensures { book.new
+        ≡ record book.old {
+          lists = slice_set book.old.lists part (exchange_first to (list_of book.old.lists part));
+        } }
 {
     let place = place_of(book.list(part as usize), to);
     book.exchange(case, part as usize, place);

@@ -1,6 +1,5 @@
 // What a goal says of the lists and of an action.
 ghost use Rattle.goal_terms.specs.Pairs.{ColdPairs, IdleTrades, StillParts, giver, taker};
-ghost use Rattle.goal_terms.specs.PerBroker.{id_at};
 ghost use Rattle.goal_terms.specs.Quantity.{Weights, part_weight, total};
 ghost use Rattle.goal_terms.specs.Rooms.{RoomsDecide};
 ghost use Rattle.goal_terms.specs.declared.room.Room.{Room};
@@ -8,7 +7,7 @@ ghost use Rattle.plan_terms.specs.declared.actions.Action.{Action};
 ghost use Rattle.goal_terms.specs.declared.heat.Heat.{Heat};
 ghost use Rattle.std.specs.Prelude.{◌≡◌, ◌<◌, ◌≤◌, ◌^◌, ◌↔◌, ℕ, Bool, IsTrue, IfSome, Option, option_map, length};
 ghost use Rattle.plan_terms.specs.Belongs.{Belongs, IsBookOf};
-ghost use Rattle.plan_terms.specs.Cluster.{Cluster, Lists};
+ghost use Rattle.plan_terms.specs.Cluster.{Cluster, Lists, id_at};
 ghost use Rattle.plan_terms.specs.Effect.{after};
 ghost use Rattle.plan_terms.specs.Faults.{IsCase};
 ghost use Rattle.plan_terms.specs.Fits.{fits, targets_known};
@@ -90,7 +89,8 @@ pub trait Goal {
     fn weight(&self, case: &Case, part: u32, leads: bool) -> Option<u64>
         requires made { made_for self.now case.now }
         requires part { part < length case.now.parts }
-        ensures { result ≡ option_map (λ w. part_weight w case.now.parts part leads) (weighs self.now) };
+        ensures { result
+            ≡ option_map (λ w. part_weight w case.now.parts part leads) (weighs self.now) };
 
     /// What all brokers carry together, for a goal that has a quantity of brokers. No action changes it.
     fn whole(&self, case: &Case, book: &LoadBook) -> Option<u128>
@@ -105,7 +105,10 @@ pub trait Goal {
         requires belongs { IsBookOf case.now book.now }
         requires all { IfSome (weighs self.now) (λ w. all ≡ total w case.now.parts book.now.lists) }
         requires broker { broker < length case.now.brokers }
-        ensures { result ≡ option_map (λ _. room_at self.now case.now book.now.lists (id_at case.now.brokers broker)) (weighs self.now) };
+        ensures { result
+            ≡ option_map
+            (λ _. room_at self.now case.now book.now.lists (id_at case.now.brokers broker))
+            (weighs self.now) };
 
     /// Every measure is below 2^120.
     ghost small: { (g : Self) (c : Cluster) (lists : Lists) → made_for g c → IsCase c → Belongs c lists → measure (meaning g c) lists < 2 ^ 120 };

@@ -4,8 +4,8 @@ ghost use Rattle.plan_terms.specs.States.{is_dead, is_new, is_demoted};
 ghost use Rattle.plan_terms.specs.Cluster.{list_of, has, leads, some_broker};
 ghost use Rattle.plan_terms.specs.Legal.{is_live, is_lost, is_open, leader_fails, may_gain, is_legal};
 
-use load_model::{Assign, Case, LoadBook, Replicas};
-use plan_terms::Action;
+use load_model::{Assign, Case, LoadBook};
+use plan_terms::{Action, Replicas, has, leads};
 
 /// The list of a partition, or an empty one past the last.
 pub fn list_at(lists: &[Replicas], part: u32) -> &[u32]
@@ -19,47 +19,10 @@ pub fn list_at(lists: &[Replicas], part: u32) -> &[u32]
     }
 }
 
-/// Whether a list has the broker as a member.
-pub fn has_member(list: &[u32], broker: u32) -> bool
-    ensures { result ≡ has list.now broker }
-{
-    list.contains(&broker)
-}
-
-/// Whether the broker is one of the case, and not lost.
-pub fn is_live(case: &Case, broker: u32) -> bool
-    ensures { result ≡ is_live case.now broker }
-{
-    match case.broker(broker) {
-        Some(x) => !x.state.is_dead(),
-        None => false,
-    }
-}
-
-/// Whether the broker is one of the case, and lost.
-pub fn is_lost(case: &Case, broker: u32) -> bool
-    ensures { result ≡ is_lost case.now broker }
-{
-    match case.broker(broker) {
-        Some(x) => x.state.is_dead(),
-        None => false,
-    }
-}
-
-/// Whether the broker is one of the case, and being added.
-pub fn is_new(case: &Case, broker: u32) -> bool
-    ensures { result ≡ some_broker (λ x. is_new x.state) case.now broker }
-{
-    match case.broker(broker) {
-        Some(x) => x.state.is_new(),
-        None => false,
-    }
-}
-
 fn may_gain(case: &Case, broker: u32) -> bool
     ensures { result ≡ may_gain case.now broker }
 {
-    is_new(case, broker) || !case.any_new()
+    case.is_new(broker) || !case.any_new()
 }
 
 /// Whether it is a partition of the case whose topic isn't excluded.
@@ -69,15 +32,6 @@ pub fn is_open(case: &Case, part: u32) -> bool
     let parts = case.parts();
     let place = part as usize;
     place < parts.len() && !parts[place].excluded
-}
-
-fn leads(list: &[u32], broker: u32) -> bool
-    ensures { result ≡ leads list.now broker }
-{
-    match list {
-        [] => false,
-        [first, ..] => *first == broker,
-    }
 }
 
 fn is_failing(case: &Case, broker: u32) -> bool
@@ -106,17 +60,17 @@ pub fn is_legal_on(case: &Case, lists: &[Replicas], action: Action) -> bool
     match action {
         Action::Move { part, from, to } => {
             let list = list_at(lists, part);
-            has_member(list, from)
-                && is_live(case, to)
-                && !has_member(list, to)
-                && (is_lost(case, from)
+            has(list, from)
+                && case.is_live(to)
+                && !has(list, to)
+                && (case.is_lost(from)
                     || is_open(case, part) && !case.options().leads_only && may_gain(case, to))
         }
         Action::Lead { part, to } => {
             let list = list_at(lists, part);
-            has_member(list, to)
+            has(list, to)
                 && !leads(list, to)
-                && is_live(case, to)
+                && case.is_live(to)
                 && (is_open(case, part) || leader_fails(case, list))
         }
         Action::Swap {
@@ -128,12 +82,12 @@ pub fn is_legal_on(case: &Case, lists: &[Replicas], action: Action) -> bool
             let list = list_at(lists, part);
             let other_list = list_at(lists, other);
             part < other
-                && has_member(list, from)
-                && !has_member(other_list, from)
-                && has_member(other_list, to)
-                && !has_member(list, to)
-                && is_live(case, from)
-                && is_live(case, to)
+                && has(list, from)
+                && !has(other_list, from)
+                && has(other_list, to)
+                && !has(list, to)
+                && case.is_live(from)
+                && case.is_live(to)
                 && is_open(case, part)
                 && is_open(case, other)
                 && !case.options().leads_only

@@ -9,6 +9,6 @@ mod listing;
 pub use effects::{Moves, place_of};
 pub use goal_terms::{Heat, Room};
 pub use goals::{Goal, measure};
-pub use legality::{is_live, is_lost, is_new, is_open, legal};
+pub use legality::{is_open, legal};
 pub use listing::{all_actions, legal_leads, legal_moves, legal_swaps};
 pub use plan_terms::{Action, Actions};

@@ -4,9 +4,9 @@ ghost use Rattle.std.specs.List.{filter};
 ghost use Rattle.plan_terms.specs.Cluster.{list_of};
 ghost use Rattle.plan_terms.specs.Legal.{is_legal, moves_from, moves_of, leads_of, swaps_with, swaps_of, each_below, all_actions};
 
-use crate::legality::{has_member, is_legal_on, list_at};
-use load_model::{Assign, Case, Memory, Replicas};
-use plan_terms::Action;
+use crate::legality::{is_legal_on, list_at};
+use load_model::{Assign, Case};
+use plan_terms::{Action, Memory, Replicas, has};
 use std::alloc::Global;
 
 fn push_legal(
@@ -15,7 +15,8 @@ fn push_legal(
     action: Action,
     out: &mut Vec<Action>,
 ) -> Result<(), Memory>
-    ensures { OnOk result (out.new.items ≡ out.old.items ++ filter (is_legal case.now lists.now) (action ∷ [])) }
+    ensures { OnOk result
+        (out.new.items ≡ out.old.items ++ filter (is_legal case.now lists.now) (action ∷ [])) }
 {
     if is_legal_on(case, lists, action) {
         out.push(action)?;
@@ -30,7 +31,10 @@ fn push_moves_from(
     from: u32,
     out: &mut Vec<Action>,
 ) -> Result<(), Memory>
-    ensures { OnOk result (out.new.items ≡ out.old.items ++ filter (is_legal case.now lists.now) (moves_from case.now.brokers part from)) }
+    ensures { OnOk result
+        (out.new.items
+        ≡ out.old.items
+        ++ filter (is_legal case.now lists.now) (moves_from case.now.brokers part from)) }
 {
     let brokers = case.brokers();
     for broker in brokers {
@@ -49,9 +53,12 @@ fn push_moves_at(
     from: u32,
     out: &mut Vec<Action>,
 ) -> Result<(), Memory>
-    ensures { OnOk result (out.new.items ≡ out.old.items ++ filter (is_legal case.now lists.now) (moves_from case.now.brokers part from)) }
+    ensures { OnOk result
+        (out.new.items
+        ≡ out.old.items
+        ++ filter (is_legal case.now lists.now) (moves_from case.now.brokers part from)) }
 {
-    if has_member(list_at(lists, part), from) {
+    if has(list_at(lists, part), from) {
         push_moves_from(case, lists, part, from, out)?;
     }
     Ok(())
@@ -63,7 +70,9 @@ fn push_moves_of(
     part: u32,
     out: &mut Vec<Action>,
 ) -> Result<(), Memory>
-    ensures { OnOk result (out.new.items ≡ out.old.items ++ filter (is_legal case.now lists.now) (moves_of case.now.brokers part)) }
+    ensures { OnOk result
+        (out.new.items
+        ≡ out.old.items ++ filter (is_legal case.now lists.now) (moves_of case.now.brokers part)) }
 {
     let brokers = case.brokers();
     for broker in brokers {
@@ -78,7 +87,9 @@ fn push_leads_of(
     part: u32,
     out: &mut Vec<Action>,
 ) -> Result<(), Memory>
-    ensures { OnOk result (out.new.items ≡ out.old.items ++ filter (is_legal case.now lists.now) (leads_of case.now.brokers part)) }
+    ensures { OnOk result
+        (out.new.items
+        ≡ out.old.items ++ filter (is_legal case.now lists.now) (leads_of case.now.brokers part)) }
 {
     let brokers = case.brokers();
     for broker in brokers {
@@ -96,7 +107,11 @@ fn push_swaps_with(
     other: u32,
     out: &mut Vec<Action>,
 ) -> Result<(), Memory>
-    ensures { OnOk result (out.new.items ≡ out.old.items ++ filter (is_legal case.now lists.now) (swaps_with case.now.brokers part from other)) }
+    ensures { OnOk result
+        (out.new.items
+        ≡ out.old.items
+        ++ filter (is_legal case.now lists.now)
+        (swaps_with case.now.brokers part from other)) }
 {
     let brokers = case.brokers();
     for broker in brokers {
@@ -119,7 +134,11 @@ fn push_swaps_from(
     out: &mut Vec<Action>,
 ) -> Result<(), Memory>
     requires { length lists.now ≤ 10000 }
-    ensures { OnOk result (out.new.items ≡ out.old.items ++ filter (is_legal case.now lists.now) (each_below (swaps_with case.now.brokers part from) (length lists.now))) }
+    ensures { OnOk result
+        (out.new.items
+        ≡ out.old.items
+        ++ filter (is_legal case.now lists.now)
+        (each_below (swaps_with case.now.brokers part from) (length lists.now))) }
 {
     let end = lists.len() as u32;
     for other in 0..end {
@@ -138,9 +157,13 @@ fn push_swaps_at(
     out: &mut Vec<Action>,
 ) -> Result<(), Memory>
     requires { length lists.now ≤ 10000 }
-    ensures { OnOk result (out.new.items ≡ out.old.items ++ filter (is_legal case.now lists.now) (each_below (swaps_with case.now.brokers part from) (length lists.now))) }
+    ensures { OnOk result
+        (out.new.items
+        ≡ out.old.items
+        ++ filter (is_legal case.now lists.now)
+        (each_below (swaps_with case.now.brokers part from) (length lists.now))) }
 {
-    if has_member(list_at(lists, part), from) {
+    if has(list_at(lists, part), from) {
         push_swaps_from(case, lists, part, from, out)?;
     }
     Ok(())
@@ -153,7 +176,11 @@ fn push_swaps_of(
     out: &mut Vec<Action>,
 ) -> Result<(), Memory>
     requires { length lists.now ≤ 10000 }
-    ensures { OnOk result (out.new.items ≡ out.old.items ++ filter (is_legal case.now lists.now) (swaps_of case.now.brokers (length lists.now) part)) }
+    ensures { OnOk result
+        (out.new.items
+        ≡ out.old.items
+        ++ filter (is_legal case.now lists.now)
+        (swaps_of case.now.brokers (length lists.now) part)) }
 {
     let brokers = case.brokers();
     for broker in brokers {
@@ -164,7 +191,11 @@ fn push_swaps_of(
 
 fn push_moves(case: &Case, lists: &[Replicas], out: &mut Vec<Action>) -> Result<(), Memory>
     requires { length lists.now ≤ 10000 }
-    ensures { OnOk result (out.new.items ≡ out.old.items ++ filter (is_legal case.now lists.now) (each_below (moves_of case.now.brokers) (length lists.now))) }
+    ensures { OnOk result
+        (out.new.items
+        ≡ out.old.items
+        ++ filter (is_legal case.now lists.now)
+        (each_below (moves_of case.now.brokers) (length lists.now))) }
 {
     let end = lists.len() as u32;
     for part in 0..end {
@@ -175,7 +206,11 @@ fn push_moves(case: &Case, lists: &[Replicas], out: &mut Vec<Action>) -> Result<
 
 fn push_leads(case: &Case, lists: &[Replicas], out: &mut Vec<Action>) -> Result<(), Memory>
     requires { length lists.now ≤ 10000 }
-    ensures { OnOk result (out.new.items ≡ out.old.items ++ filter (is_legal case.now lists.now) (each_below (leads_of case.now.brokers) (length lists.now))) }
+    ensures { OnOk result
+        (out.new.items
+        ≡ out.old.items
+        ++ filter (is_legal case.now lists.now)
+        (each_below (leads_of case.now.brokers) (length lists.now))) }
 {
     let end = lists.len() as u32;
     for part in 0..end {
@@ -186,7 +221,11 @@ fn push_leads(case: &Case, lists: &[Replicas], out: &mut Vec<Action>) -> Result<
 
 fn push_swaps(case: &Case, lists: &[Replicas], out: &mut Vec<Action>) -> Result<(), Memory>
     requires { length lists.now ≤ 10000 }
-    ensures { OnOk result (out.new.items ≡ out.old.items ++ filter (is_legal case.now lists.now) (each_below (swaps_of case.now.brokers (length lists.now)) (length lists.now))) }
+    ensures { OnOk result
+        (out.new.items
+        ≡ out.old.items
+        ++ filter (is_legal case.now lists.now)
+        (each_below (swaps_of case.now.brokers (length lists.now)) (length lists.now))) }
 {
     let end = lists.len() as u32;
     for part in 0..end {
@@ -202,7 +241,8 @@ pub fn legal_moves(
     lists: &Assign,
     part: u32,
 ) -> Result<Vec<Action>, Memory>
-    ensures { IfOk result (λ v. v.items ≡ filter (is_legal case.now lists.now) (moves_of case.now.brokers part)) }
+    ensures { IfOk result
+        (λ v. v.items ≡ filter (is_legal case.now lists.now) (moves_of case.now.brokers part)) }
 {
     let mut out = Vec::new(alloc);
     push_moves_of(case, lists.lists(), part, &mut out)?;
@@ -216,7 +256,8 @@ pub fn legal_leads(
     lists: &Assign,
     part: u32,
 ) -> Result<Vec<Action>, Memory>
-    ensures { IfOk result (λ v. v.items ≡ filter (is_legal case.now lists.now) (leads_of case.now.brokers part)) }
+    ensures { IfOk result
+        (λ v. v.items ≡ filter (is_legal case.now lists.now) (leads_of case.now.brokers part)) }
 {
     let mut out = Vec::new(alloc);
     push_leads_of(case, lists.lists(), part, &mut out)?;
@@ -231,7 +272,10 @@ pub fn legal_swaps(
     lists: &Assign,
     part: u32,
 ) -> Result<Vec<Action>, Memory>
-    ensures { IfOk result (λ v. v.items ≡ filter (is_legal case.now lists.now) (swaps_of case.now.brokers (length lists.now) part)) }
+    ensures { IfOk result
+        (λ v. v.items
+        ≡ filter (is_legal case.now lists.now)
+        (swaps_of case.now.brokers (length lists.now) part)) }
 {
     let mut out = Vec::new(alloc);
     push_swaps_of(case, lists.lists(), part, &mut out)?;

@@ -77,14 +77,17 @@ module _ (v u w : Known) (k j l : Copies) (so_far : HasMade (AreSome v.rules u.s
       (λ a ca b cb p q. let q' = subst (λ r. AreBroken r w.seen b cb) so_far.rules q in (p.0 + q'.0, rounds_both v.rules u.seen w.seen p.0 q'.0 (IsBroken (IsRound v.rules w.seen) v.rules w.seen) a ca b cb p.1 q'.1)) so_far h
 
 -- no round yet
-pub no_round : (v : Known) (k : Copies) → HasMade (AreSome v.rules v.seen) v v k k
-no_round v k = record {
+pub none_done : (v : Known) (k : Copies) → HasDone v v k k 0
+none_done v k = record {
   made = [];
   copies = [];
   own = sym (append-nil v.own);
   copied = no_copies k.made;
-  is = (0, record { rounds = []; made_is = refl; did = tt; count_is = refl; copies_are = refl });
+  is = record { rounds = []; made_is = refl; did = tt; count_is = refl; copies_are = refl };
   failed = risen_none k.faults k.faults (omega arith);
   rules = refl;
   longer = prefix_self v.seen;
 }
+
+pub no_round : (v : Known) (k : Copies) → HasMade (AreSome v.rules v.seen) v v k k
+no_round v k = some v v k k 0 (none_done v k)

@@ -13,6 +13,7 @@ use control_core::Book;
 use core_laws::{every_event, every_history, every_round};
 use core_terms::StepFault;
 use std::alloc::Global;
+use std::thread::Threads;
 
 /// How a drain ended.
 #[derive(Clone, Copy, Debug, PartialEq, Eq)]
@@ -26,14 +27,16 @@ pub enum DrainEnd {
 }
 
 // Makes rounds of work, until one finds a job, which is planned then, or neither.
-fn work<A: Admin, K: Copier>(
+fn work<A: Admin, K: Copier, R: Threads + Sync>(
+    rt: &R,
     alloc: Global,
     book: &mut Book<A>,
     copier: &mut K,
 ) -> Result<Found, StepFault>
     requires { IsQuiet (state_of book.old).desk }
     ensures since { IsSince A.faults book.old book.new }
-    ensures found { HasFound (known_by_owner book.old) (known_by_owner book.new) (copier_of K.copies K.faults copier.old) (copier_of K.copies K.faults copier.new) result }
+    ensures found { HasFound (known_by_owner book.old) (known_by_owner book.new)
+        (copier_of K.copies K.faults copier.old) (copier_of K.copies K.faults copier.new) result }
     ensures by { IfOk result (IsFoundBy (state_of book.old).desk (state_of book.new).desk) }
     ensures cause { IfErr result (IsCause (known_by_owner book.old) (known_by_owner book.new)) }
     ensures kept { OnOk result (book.new.failures ≡ book.old.failures) }
@@ -43,7 +46,7 @@ fn work<A: Admin, K: Copier>(
     every_round();
     loop {
         let _input = book.journal();
-        match one_round(alloc, book, copier) {
+        match one_round(rt, alloc, book, copier) {
             Ok(Found::Worked) => {}
             Ok(Found::Planned) => return Ok(Found::Planned),
             Ok(Found::Idle(why, closing)) => return Ok(Found::Idle(why, closing)),
@@ -53,15 +56,21 @@ fn work<A: Admin, K: Copier>(
 }
 
 // Makes rounds until no task and no job is unfinished, or one ends in an error.
-fn rounds<A: Admin, K: Copier>(alloc: Global, book: &mut Book<A>, copier: &mut K) -> DrainEnd
+fn rounds<A: Admin, K: Copier, R: Threads + Sync>(
+    rt: &R,
+    alloc: Global,
+    book: &mut Book<A>,
+    copier: &mut K,
+) -> DrainEnd
     requires { IsQuiet (state_of book.old).desk }
     ensures since { IsSince A.faults book.old book.new }
-    ensures rounds { HasDrained (known_by_owner book.old) (known_by_owner book.new) (copier_of K.copies K.faults copier.old) (copier_of K.copies K.faults copier.new) result }
+    ensures rounds { HasDrained (known_by_owner book.old) (known_by_owner book.new)
+        (copier_of K.copies K.faults copier.old) (copier_of K.copies K.faults copier.new) result }
     ensures drained { result ≡ DrainEnd.Drained → IsDone (state_of book.new).desk }
     ensures cause { IsDrainCause (known_by_owner book.old) (known_by_owner book.new) result }
 {
     loop {
-        match work(alloc, book, copier) {
+        match work(rt, alloc, book, copier) {
             Ok(Found::Planned) => {}
             Ok(Found::Worked) => {}
             Ok(Found::Idle(_, _)) => return DrainEnd::Drained,
@@ -73,17 +82,23 @@ fn rounds<A: Admin, K: Copier>(alloc: Global, book: &mut Book<A>, copier: &mut K
 
 /// Makes rounds until no task and no job is unfinished. It ends, since each round leaves less to do. The copies that it makes are
 /// just those that its entries name.
-pub fn drain<A: Admin, K: Copier>(alloc: Global, book: &mut Book<A>, copier: &mut K) -> DrainEnd
+pub fn drain<A: Admin, K: Copier, R: Threads + Sync>(
+    rt: &R,
+    alloc: Global,
+    book: &mut Book<A>,
+    copier: &mut K,
+) -> DrainEnd
     requires { IsQuiet (state_of book.old).desk }
     ensures since { IsSince A.faults book.old book.new }
-    ensures rounds { HasDrainedAlone (known_by_owner book.old) (known_by_owner book.new) (copier_of K.copies K.faults copier.old) (copier_of K.copies K.faults copier.new) result }
+    ensures rounds { HasDrainedAlone (known_by_owner book.old) (known_by_owner book.new)
+        (copier_of K.copies K.faults copier.old) (copier_of K.copies K.faults copier.new) result }
     ensures drained { result ≡ DrainEnd.Drained → IsDone (state_of book.new).desk }
     ensures cause { IsDrainCause (known_by_owner book.old) (known_by_owner book.new) result }
 {
     every_history();
     every_round();
     let _input = book.journal();
-    let end = rounds(alloc, book, copier);
+    let end = rounds(rt, alloc, book, copier);
     let _legal = book.journal();
     end
 }

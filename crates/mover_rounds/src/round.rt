@@ -8,6 +8,7 @@ use crate::work::{do_job, do_work};
 use cluster_gate::Copier;
 use core_terms::{Reason, StepFault};
 use std::alloc::Global;
+use std::thread::Threads;
 
 /// What a round found.
 #[derive(Clone, Copy, Debug, PartialEq, Eq)]
@@ -23,7 +24,8 @@ pub enum Found {
 /// A round of a mover: work, where there is some.
 pub fn take_work<X: Asker, K: Copier>(asker: &mut X, copier: &mut K) -> Result<Found, StepFault>
     ensures since { X.since asker.old asker.new }
-    ensures round { HasTaken (X.known asker.old) (X.known asker.new) (copier_of K.copies K.faults copier.old) (copier_of K.copies K.faults copier.new) result }
+    ensures round { HasTaken (X.known asker.old) (X.known asker.new)
+        (copier_of K.copies K.faults copier.old) (copier_of K.copies K.faults copier.new) result }
     ensures cause { IfErr result (IsCause (X.known asker.old) (X.known asker.new)) }
     ensures kept { OnOk result ((X.known asker.new).blamed ≡ (X.known asker.old).blamed) }
 {
@@ -38,18 +40,20 @@ pub fn take_work<X: Asker, K: Copier>(asker: &mut X, copier: &mut K) -> Result<F
 }
 
 /// A round: a job, or where there is none work.
-pub fn one_round<X: Asker, K: Copier>(
+pub fn one_round<X: Asker, K: Copier, R: Threads + Sync>(
+    rt: &R,
     alloc: Global,
     asker: &mut X,
     copier: &mut K,
 ) -> Result<Found, StepFault>
     ensures since { X.since asker.old asker.new }
-    ensures round { HasRound (X.known asker.old) (X.known asker.new) (copier_of K.copies K.faults copier.old) (copier_of K.copies K.faults copier.new) result }
+    ensures round { HasRound (X.known asker.old) (X.known asker.new)
+        (copier_of K.copies K.faults copier.old) (copier_of K.copies K.faults copier.new) result }
     ensures cause { IfErr result (IsCause (X.known asker.old) (X.known asker.new)) }
     ensures kept { OnOk result ((X.known asker.new).blamed ≡ (X.known asker.old).blamed) }
 {
     match ask_job(asker) {
-        Ok(Ok(job)) => match do_job(alloc, asker, &job) {
+        Ok(Ok(job)) => match do_job(rt, alloc, asker, &job) {
             Ok(()) => Ok(Found::Planned),
             Err(fault) => Err(fault),
         },

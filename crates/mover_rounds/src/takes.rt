@@ -23,9 +23,16 @@ pub struct NoWork {
 /// Asks for a job. Without one, whether Close was asked before.
 pub fn ask_job<X: Asker>(asker: &mut X) -> Result<Result<ToPlan, bool>, StepFault>
     ensures since { X.since asker.old asker.new }
-    ensures job { IfOk result (λ r. IfOk r (λ j. HasAsked (X.known asker.old) (X.known asker.new) Event.PlanTake (Reply.Job j.ticket j.problem))) }
-    ensures no_job { IfOk result (λ r. IfErr r (λ closing. HasAsked (X.known asker.old) (X.known asker.new) Event.PlanTake (Reply.NoJob closing))) }
-    ensures unasked { IfErr result (IsUnasked (X.known asker.old) (X.known asker.new) Event.PlanTake) }
+    ensures job { IfOk result
+        (λ r. IfOk r
+        (λ j. HasAsked (X.known asker.old) (X.known asker.new) Event.PlanTake
+        (Reply.Job j.ticket j.problem))) }
+    ensures no_job { IfOk result
+        (λ r. IfErr r
+        (λ closing. HasAsked (X.known asker.old) (X.known asker.new) Event.PlanTake
+        (Reply.NoJob closing))) }
+    ensures unasked { IfErr result
+        (IsUnasked (X.known asker.old) (X.known asker.new) Event.PlanTake) }
 {
     match asker.ask(Event::PlanTake) {
         Ok(Reply::Job(ticket, problem)) => Ok(Ok(ToPlan { ticket, problem })),
@@ -38,8 +45,13 @@ pub fn ask_job<X: Asker>(asker: &mut X) -> Result<Result<ToPlan, bool>, StepFaul
 /// Asks for work. Without it, why there is none.
 pub fn ask_work<X: Asker>(asker: &mut X) -> Result<Result<Given, NoWork>, StepFault>
     ensures since { X.since asker.old asker.new }
-    ensures work { IfOk result (λ r. IfOk r (λ given. HasAsked (X.known asker.old) (X.known asker.new) Event.Take (Reply.Work given))) }
-    ensures no_work { IfOk result (λ r. IfErr r (λ none. HasAsked (X.known asker.old) (X.known asker.new) Event.Take (Reply.Idle none.why none.closing))) }
+    ensures work { IfOk result
+        (λ r. IfOk r
+        (λ given. HasAsked (X.known asker.old) (X.known asker.new) Event.Take (Reply.Work given))) }
+    ensures no_work { IfOk result
+        (λ r. IfErr r
+        (λ none. HasAsked (X.known asker.old) (X.known asker.new) Event.Take
+        (Reply.Idle none.why none.closing))) }
     ensures unasked { IfErr result (IsUnasked (X.known asker.old) (X.known asker.new) Event.Take) }
 {
     match asker.ask(Event::Take) {

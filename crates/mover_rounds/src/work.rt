@@ -10,6 +10,7 @@ use core_terms::{Event, Reply, StepFault};
 use exec_terms::{Given, Work};
 use goal_optimizer::{PlanFault, optimise};
 use std::alloc::Global;
+use std::thread::Threads;
 
 /// Copies a chunk under a lease. The copier's failure, and nothing else, is told as CopyFailed.
 pub fn copy_work<X: Asker, K: Copier>(
@@ -21,7 +22,9 @@ pub fn copy_work<X: Asker, K: Copier>(
 ) -> Result<(), StepFault>
     requires { given.work ≡ Work.Copy to chunk }
     ensures since { X.since asker.old asker.new }
-    ensures worked { HasWorked (X.known asker.old) (X.known asker.new) (Reply.Work given) (copier_of K.copies K.faults copier.old) (copier_of K.copies K.faults copier.new) (standing_of result) }
+    ensures worked { HasWorked (X.known asker.old) (X.known asker.new) (Reply.Work given)
+        (copier_of K.copies K.faults copier.old) (copier_of K.copies K.faults copier.new)
+        (standing_of result) }
     ensures cause { IfErr result (IsCause (X.known asker.old) (X.known asker.new)) }
     ensures kept { OnOk result ((X.known asker.new).blamed ≡ (X.known asker.old).blamed) }
 {
@@ -43,7 +46,9 @@ pub fn do_work<X: Asker, K: Copier>(
     given: Given,
 ) -> Result<(), StepFault>
     ensures since { X.since asker.old asker.new }
-    ensures worked { HasWorked (X.known asker.old) (X.known asker.new) (Reply.Work given) (copier_of K.copies K.faults copier.old) (copier_of K.copies K.faults copier.new) (standing_of result) }
+    ensures worked { HasWorked (X.known asker.old) (X.known asker.new) (Reply.Work given)
+        (copier_of K.copies K.faults copier.old) (copier_of K.copies K.faults copier.new)
+        (standing_of result) }
     ensures cause { IfErr result (IsCause (X.known asker.old) (X.known asker.new)) }
     ensures kept { OnOk result ((X.known asker.new).blamed ≡ (X.known asker.old).blamed) }
 {
@@ -56,15 +61,21 @@ pub fn do_work<X: Asker, K: Copier>(
 }
 
 /// Plans the job of a ticket.
-pub fn do_job<X: Asker>(alloc: Global, asker: &mut X, job: &ToPlan) -> Result<(), StepFault>
+pub fn do_job<X: Asker, R: Threads + Sync>(
+    rt: &R,
+    alloc: Global,
+    asker: &mut X,
+    job: &ToPlan,
+) -> Result<(), StepFault>
     ensures since { X.since asker.old asker.new }
-    ensures ended { HasEnded (X.known asker.old) (X.known asker.new) (Reply.Job job.now.ticket job.now.problem) (standing_of result) }
+    ensures ended { HasEnded (X.known asker.old) (X.known asker.new)
+        (Reply.Job job.now.ticket job.now.problem) (standing_of result) }
     ensures cause { IfErr result (IsCause (X.known asker.old) (X.known asker.new)) }
     ensures kept { OnOk result ((X.known asker.new).blamed ≡ (X.known asker.old).blamed) }
 {
     let back = Event::PlanBack(job.ticket);
     let problem = &job.problem;
-    match optimise(alloc, problem.case(), problem.start(), problem.goals()) {
+    match optimise(rt, alloc, problem.case(), problem.start(), problem.goals()) {
         Ok(plan) => end_with(asker, Event::Planned(job.ticket, plan), back),
         Err(PlanFault::Goal(failure)) => {
             end_with(asker, Event::Refused(job.ticket, failure), back)

@@ -8,6 +8,7 @@ use cluster_gate::Copier;
 use core_terms::StepFault;
 use std::alloc::Global;
 use std::sync::Wait;
+use std::thread::Threads;
 
 /// How a loop of a planner or of a mover ended.
 #[derive(Clone, Copy, Debug, PartialEq, Eq)]
@@ -21,13 +22,17 @@ pub enum LoopEnd {
 }
 
 /// Plans jobs, and rests where there is none, until Close was asked.
-pub fn make_plans<X: Rests, R: Wait>(rt: &R, alloc: Global, asker: &mut X) -> LoopEnd
+pub fn make_plans<X: Rests, R: Threads + Wait + Sync>(
+    rt: &R,
+    alloc: Global,
+    asker: &mut X,
+) -> LoopEnd
     ensures since { X.since asker.old asker.new }
     ensures planned { HasPlanned (X.known asker.old) (X.known asker.new) result }
     ensures no_admin { CallsNoAdmin result }
 {
     for _ in rt.forever() {
-        match plan_step(alloc, asker) {
+        match plan_step(rt, alloc, asker) {
             Ok(Step::Done) => {}
             Ok(Step::Idle) => asker.rest(),
             Ok(Step::Closed) => return LoopEnd::Closed,
@@ -40,18 +45,19 @@ pub fn make_plans<X: Rests, R: Wait>(rt: &R, alloc: Global, asker: &mut X) -> Lo
 
 /// Takes and does work. Where a plan is being made it plans, and else rests where there is none, until Close was asked and nothing is
 /// executed.
-pub fn make_moves<X: Rests, K: Copier, R: Wait>(
+pub fn make_moves<X: Rests, K: Copier, R: Threads + Wait + Sync>(
     rt: &R,
     alloc: Global,
     asker: &mut X,
     copier: &mut K,
 ) -> LoopEnd
     ensures since { X.since asker.old asker.new }
-    ensures moved { HasMoved (X.known asker.old) (X.known asker.new) (copier_of K.copies K.faults copier.old) (copier_of K.copies K.faults copier.new) result }
+    ensures moved { HasMoved (X.known asker.old) (X.known asker.new)
+        (copier_of K.copies K.faults copier.old) (copier_of K.copies K.faults copier.new) result }
     ensures cause { IsLoopCause (X.known asker.old) (X.known asker.new) result }
 {
     for _ in rt.forever() {
-        match move_step(alloc, asker, copier) {
+        match move_step(rt, alloc, asker, copier) {
             Ok(Step::Done) => {}
             Ok(Step::Idle) => asker.rest(),
             Ok(Step::Closed) => return LoopEnd::Closed,

@@ -7,6 +7,7 @@ use cluster_gate::Copier;
 use core_terms::{Reason, StepFault};
 use mover_rounds::{Asker, NoWork, ask_job, ask_work, do_job, do_work};
 use std::alloc::Global;
+use std::thread::Threads;
 
 /// What came of a step.
 #[derive(Clone, Copy, Debug, PartialEq, Eq)]
@@ -27,14 +28,18 @@ fn look(closing: bool) -> Step
 }
 
 /// A planner's step: a job, where there is one.
-pub(crate) fn plan_step<X: Asker>(alloc: Global, asker: &mut X) -> Result<Step, StepFault>
+pub(crate) fn plan_step<X: Asker, R: Threads + Sync>(
+    rt: &R,
+    alloc: Global,
+    asker: &mut X,
+) -> Result<Step, StepFault>
     ensures since { X.since asker.old asker.new }
     ensures made { (k : Copies) → HasPlanStep (X.known asker.old) (X.known asker.new) k result }
     ensures cause { IfErr result (IsCause (X.known asker.old) (X.known asker.new)) }
     ensures kept { OnOk result ((X.known asker.new).blamed ≡ (X.known asker.old).blamed) }
 {
     match ask_job(asker) {
-        Ok(Ok(job)) => match do_job(alloc, asker, &job) {
+        Ok(Ok(job)) => match do_job(rt, alloc, asker, &job) {
             Ok(()) => Ok(Step::Done),
             Err(fault) => Err(fault),
         },
@@ -44,13 +49,18 @@ pub(crate) fn plan_step<X: Asker>(alloc: Global, asker: &mut X) -> Result<Step, 
 }
 
 // A planner's step of a mover, whose loop it doesn't end.
-fn plan_meanwhile<X: Asker>(alloc: Global, asker: &mut X) -> Result<Step, StepFault>
+fn plan_meanwhile<X: Asker, R: Threads + Sync>(
+    rt: &R,
+    alloc: Global,
+    asker: &mut X,
+) -> Result<Step, StepFault>
     ensures since { X.since asker.old asker.new }
-    ensures made { (k : Copies) (closing : Bool) → HasBehind (X.known asker.old) (X.known asker.new) k Reason.Planning closing result }
+    ensures made { (k : Copies) (closing : Bool)
+        → HasBehind (X.known asker.old) (X.known asker.new) k Reason.Planning closing result }
     ensures cause { IfErr result (IsCause (X.known asker.old) (X.known asker.new)) }
     ensures kept { OnOk result ((X.known asker.new).blamed ≡ (X.known asker.old).blamed) }
 {
-    match plan_step(alloc, asker) {
+    match plan_step(rt, alloc, asker) {
         Ok(Step::Done) => Ok(Step::Done),
         Ok(Step::Idle) => Ok(Step::Idle),
         Ok(Step::Closed) => Ok(Step::Idle),
@@ -59,14 +69,20 @@ fn plan_meanwhile<X: Asker>(alloc: Global, asker: &mut X) -> Result<Step, StepFa
 }
 
 // What a mover does where there is no work.
-fn idle_step<X: Asker>(alloc: Global, asker: &mut X, none: NoWork) -> Result<Step, StepFault>
+fn idle_step<X: Asker, R: Threads + Sync>(
+    rt: &R,
+    alloc: Global,
+    asker: &mut X,
+    none: NoWork,
+) -> Result<Step, StepFault>
     ensures since { X.since asker.old asker.new }
-    ensures made { (k : Copies) → HasBehind (X.known asker.old) (X.known asker.new) k none.why none.closing result }
+    ensures made { (k : Copies)
+        → HasBehind (X.known asker.old) (X.known asker.new) k none.why none.closing result }
     ensures cause { IfErr result (IsCause (X.known asker.old) (X.known asker.new)) }
     ensures kept { OnOk result ((X.known asker.new).blamed ≡ (X.known asker.old).blamed) }
 {
     match none.why {
-        Reason::Planning => plan_meanwhile(alloc, asker),
+        Reason::Planning => plan_meanwhile(rt, alloc, asker),
         Reason::NoExecution => Ok(look(none.closing)),
         Reason::CapsFull => Ok(Step::Idle),
         Reason::AllLeased => Ok(Step::Idle),
@@ -74,13 +90,15 @@ fn idle_step<X: Asker>(alloc: Global, asker: &mut X, none: NoWork) -> Result<Ste
 }
 
 /// A mover's step: work, where there is some. While a plan is being made, a planner's step.
-pub(crate) fn move_step<X: Asker, K: Copier>(
+pub(crate) fn move_step<X: Asker, K: Copier, R: Threads + Sync>(
+    rt: &R,
     alloc: Global,
     asker: &mut X,
     copier: &mut K,
 ) -> Result<Step, StepFault>
     ensures since { X.since asker.old asker.new }
-    ensures made { HasMoveStep (X.known asker.old) (X.known asker.new) (copier_of K.copies K.faults copier.old) (copier_of K.copies K.faults copier.new) result }
+    ensures made { HasMoveStep (X.known asker.old) (X.known asker.new)
+        (copier_of K.copies K.faults copier.old) (copier_of K.copies K.faults copier.new) result }
     ensures cause { IfErr result (IsCause (X.known asker.old) (X.known asker.new)) }
     ensures kept { OnOk result ((X.known asker.new).blamed ≡ (X.known asker.old).blamed) }
 {
@@ -89,7 +107,7 @@ pub(crate) fn move_step<X: Asker, K: Copier>(
             Ok(()) => Ok(Step::Done),
             Err(fault) => Err(fault),
         },
-        Ok(Err(none)) => idle_step(alloc, asker, none),
+        Ok(Err(none)) => idle_step(rt, alloc, asker, none),
         Err(fault) => Err(fault),
     }
 }

@@ -14,11 +14,12 @@ use core_laws::every_history;
 use core_terms::PumpEnd;
 use std::alloc::Global;
 use std::sync::Wait;
+use std::thread::Threads;
 use turn_book::{Pass, Turn};
 
 /// Makes rounds, until so many were done or one finds neither a job nor work, which isn't counted. The pass comes back with their
 /// entries.
-pub fn pump<A: Admin, K: Copier, R: Wait>(
+pub fn pump<A: Admin, K: Copier, R: Threads + Wait + Sync>(
     rt: &R,
     alloc: Global,
     turn: &Turn<Book<A>>,
@@ -29,16 +30,19 @@ pub fn pump<A: Admin, K: Copier, R: Wait>(
     requires own { Belongs turn.now pass }
     ensures own { Belongs turn.now result.0 }
     ensures later { IsLater pass result.0 }
-    ensures pumped { HasPumped (known_by_pass turn.now.start.file pass) (known_by_pass turn.now.start.file result.0) (copier_of K.copies K.faults copier.old) (copier_of K.copies K.faults copier.new) steps result.1 }
-    ensures cause { IsPumpCause (known_by_pass turn.now.start.file pass) (known_by_pass turn.now.start.file result.0) result.1 }
+    ensures pumped { HasPumped (known_by_pass turn.now.start.file pass)
+        (known_by_pass turn.now.start.file result.0) (copier_of K.copies K.faults copier.old)
+        (copier_of K.copies K.faults copier.new) steps result.1 }
+    ensures cause { IsPumpCause (known_by_pass turn.now.start.file pass)
+        (known_by_pass turn.now.start.file result.0) result.1 }
 {
     let mut caller = Caller::new(rt, turn, pass);
-    let end = mover_rounds::pump(alloc, &mut caller, copier, steps);
+    let end = mover_rounds::pump(rt, alloc, &mut caller, copier, steps);
     (caller.into_pass(), end)
 }
 
 /// Plans jobs, and rests where there is none, until Close was asked. The pass comes back with its entries.
-pub fn planner_loop<A: Admin, R: Wait>(
+pub fn planner_loop<A: Admin, R: Threads + Wait + Sync>(
     rt: &R,
     alloc: Global,
     turn: &Turn<Book<A>>,
@@ -47,7 +51,8 @@ pub fn planner_loop<A: Admin, R: Wait>(
     requires own { Belongs turn.now pass }
     ensures own { Belongs turn.now result.0 }
     ensures later { IsLater pass result.0 }
-    ensures planned { HasPlanned (known_by_pass turn.now.start.file pass) (known_by_pass turn.now.start.file result.0) result.1 }
+    ensures planned { HasPlanned (known_by_pass turn.now.start.file pass)
+        (known_by_pass turn.now.start.file result.0) result.1 }
     ensures no_admin { CallsNoAdmin result.1 }
     ensures closed { result.1 ≡ LoopEnd.Closed → list_any is_close result.0.seen ≡ true }
 {
@@ -59,7 +64,7 @@ pub fn planner_loop<A: Admin, R: Wait>(
 
 /// Takes and does work. While a plan is being made it plans, and else rests where there is no work, until Close was asked and nothing
 /// is executed. The pass comes back with its entries.
-pub fn mover_loop<A: Admin, K: Copier, R: Wait>(
+pub fn mover_loop<A: Admin, K: Copier, R: Threads + Wait + Sync>(
     rt: &R,
     alloc: Global,
     turn: &Turn<Book<A>>,
@@ -69,8 +74,11 @@ pub fn mover_loop<A: Admin, K: Copier, R: Wait>(
     requires own { Belongs turn.now pass }
     ensures own { Belongs turn.now result.0 }
     ensures later { IsLater pass result.0 }
-    ensures moved { HasMoved (known_by_pass turn.now.start.file pass) (known_by_pass turn.now.start.file result.0) (copier_of K.copies K.faults copier.old) (copier_of K.copies K.faults copier.new) result.1 }
-    ensures cause { IsLoopCause (known_by_pass turn.now.start.file pass) (known_by_pass turn.now.start.file result.0) result.1 }
+    ensures moved { HasMoved (known_by_pass turn.now.start.file pass)
+        (known_by_pass turn.now.start.file result.0) (copier_of K.copies K.faults copier.old)
+        (copier_of K.copies K.faults copier.new) result.1 }
+    ensures cause { IsLoopCause (known_by_pass turn.now.start.file pass)
+        (known_by_pass turn.now.start.file result.0) result.1 }
     ensures closed { result.1 ≡ LoopEnd.Closed → list_any is_close result.0.seen ≡ true }
 {
     every_history();

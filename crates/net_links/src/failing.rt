@@ -50,7 +50,8 @@ impl<L: Listener> Listener for FailingListener<L> {
         ensures fails { IsListed self.old.calls → IsErr result }
         ensures kept { IsListed self.old.calls → self.new.inner ≡ self.old.inner }
         ensures counts { CountsCall self.old.calls self.new.calls }
-        ensures cause { HasCause (⟦<Self as Listener>⟧.faults self.old) (⟦<Self as Listener>⟧.faults self.new) result }
+        ensures cause { HasCause (⟦<Self as Listener>⟧.faults self.old)
+            (⟦<Self as Listener>⟧.faults self.new) result }
         ensures accepted { L.accepted self.new.inner ≡ L.accepted self.old.inner }
     {
         if self.calls.next_fails() {
@@ -63,9 +64,16 @@ impl<L: Listener> Listener for FailingListener<L> {
         ensures fails { IsListed self.old.calls → IsErr result }
         ensures kept { IsListed self.old.calls → self.new.inner ≡ self.old.inner }
         ensures counts { CountsCall self.old.calls self.new.calls }
-        ensures cause { HasCause (⟦<Self as Listener>⟧.faults self.old) (⟦<Self as Listener>⟧.faults self.new) result }
-        ensures accepted { IfOk result (λ link. L.accepted self.new.inner ≡ with_link (L.accepted self.old.inner)
-            (record { source_faults = L.Conn.Source.faults link; sink_faults = L.Conn.Sink.faults link; left = L.Conn.left link })) }
+        ensures cause { HasCause (⟦<Self as Listener>⟧.faults self.old)
+            (⟦<Self as Listener>⟧.faults self.new) result }
+        ensures accepted { IfOk result
+            (λ link. L.accepted self.new.inner
+            ≡ with_link (L.accepted self.old.inner)
+            (record {
+              source_faults = L.Conn.Source.faults link;
+              sink_faults = L.Conn.Sink.faults link;
+              left = L.Conn.left link;
+            })) }
         ensures fresh { IfOk result (λ link. IsFresh (L.Conn.written link)) }
         ensures failed { OnErr result (L.accepted self.new.inner ≡ L.accepted self.old.inner) }
     {

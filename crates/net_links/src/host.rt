@@ -118,7 +118,8 @@ impl<R: Net> Listener for HostListener<R> {
     fn listen(&mut self, address: &str) -> Result<(), Failed>
         ensures bound { OnOk result (IsSome self.new.listener) }
         ensures cause { HasCause self.old.faults self.new.faults result }
-        ensures accepted { ⟦<Self as Listener>⟧.accepted self.new ≡ ⟦<Self as Listener>⟧.accepted self.old }
+        ensures accepted { ⟦<Self as Listener>⟧.accepted self.new
+            ≡ ⟦<Self as Listener>⟧.accepted self.old }
     {
         match TcpListener::bind(&self.rt, address) {
             Ok(listener) => {
@@ -136,10 +137,17 @@ impl<R: Net> Listener for HostListener<R> {
     fn accept(&mut self) -> Result<HostLink<R::Stream>, Failed>
         ensures unbound { self.old.listener ≡ None → IsErr result }
         ensures cause { HasCause self.old.faults self.new.faults result }
-        ensures accepted { IfOk result (λ link. ⟦<Self as Listener>⟧.accepted self.new ≡ with_link (⟦<Self as Listener>⟧.accepted self.old)
-            (record { source_faults = ⟦<HostLink<R::Stream> as Source>⟧.faults link; sink_faults = ⟦<HostLink<R::Stream> as Sink>⟧.faults link; left = ⟦<HostLink<R::Stream> as Source>⟧.left link })) }
+        ensures accepted { IfOk result
+            (λ link. ⟦<Self as Listener>⟧.accepted self.new
+            ≡ with_link (⟦<Self as Listener>⟧.accepted self.old)
+            (record {
+              source_faults = ⟦<HostLink<R::Stream> as Source>⟧.faults link;
+              sink_faults = ⟦<HostLink<R::Stream> as Sink>⟧.faults link;
+              left = ⟦<HostLink<R::Stream> as Source>⟧.left link;
+            })) }
         ensures fresh { IfOk result (λ link. IsFresh (⟦<HostLink<R::Stream> as Sink>⟧.written link)) }
-        ensures failed { OnErr result (⟦<Self as Listener>⟧.accepted self.new ≡ ⟦<Self as Listener>⟧.accepted self.old) }
+        ensures failed { OnErr result
+            (⟦<Self as Listener>⟧.accepted self.new ≡ ⟦<Self as Listener>⟧.accepted self.old) }
     {
         match self.next_stream() {
             Ok(stream) => Ok(HostLink::new(stream)),

@@ -32,8 +32,14 @@ pub trait Listener {
     /// `Failed` where the call fails. No link is accepted then.
     fn accept(&mut self) -> Result<Self::Conn, Failed>
         ensures cause { HasCause (faults self.old) (faults self.new) result }
-        ensures accepted { IfOk result (λ link. accepted self.new ≡ with_link (accepted self.old)
-            (record { source_faults = Self.Conn.Source.faults link; sink_faults = Self.Conn.Sink.faults link; left = Self.Conn.left link })) }
+        ensures accepted { IfOk result
+            (λ link. accepted self.new
+            ≡ with_link (accepted self.old)
+            (record {
+              source_faults = Self.Conn.Source.faults link;
+              sink_faults = Self.Conn.Sink.faults link;
+              left = Self.Conn.left link;
+            })) }
         ensures fresh { IfOk result (λ link. IsFresh (Self.Conn.written link)) }
         ensures failed { OnErr result (accepted self.new ≡ accepted self.old) };
 }

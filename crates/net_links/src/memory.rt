@@ -41,27 +41,38 @@ impl<C: Link> Listener for MemoryListener<C> {
 
     ghost faults = { λ m. m.faults };
 
-    ghost accepted = { λ m. Some (map (accepted_link C.Source.faults C.Sink.faults C.left) (handed_out m.given.value.items (into_iter_items m.waiting))) };
+    ghost accepted = { λ m. Some
+        (map (accepted_link C.Source.faults C.Sink.faults C.left)
+        (handed_out m.given.value.items (into_iter_items m.waiting))) };
 
     /// Never fails. Whatever the address, the same links wait.
     fn listen(&mut self, address: &str) -> Result<(), Failed>
         ensures never { IsOk result }
         ensures kept { self.new ≡ self.old }
         ensures cause { HasCause self.old.faults self.new.faults result }
-        ensures accepted { ⟦<Self as Listener>⟧.accepted self.new ≡ ⟦<Self as Listener>⟧.accepted self.old }
+        ensures accepted { ⟦<Self as Listener>⟧.accepted self.new
+            ≡ ⟦<Self as Listener>⟧.accepted self.old }
     {
         let _ = address;
         Ok(())
     }
 
     fn accept(&mut self) -> Result<C, Failed>
-        ensures next { IfOk result (λ link. into_iter_items self.old.waiting ≡ link ∷ into_iter_items self.new.waiting) }
+        ensures next { IfOk result
+            (λ link. into_iter_items self.old.waiting ≡ link ∷ into_iter_items self.new.waiting) }
         ensures none { IsErr result ↔ (into_iter_items self.old.waiting ≡ []) }
         ensures cause { HasCause self.old.faults self.new.faults result }
-        ensures accepted { IfOk result (λ link. ⟦<Self as Listener>⟧.accepted self.new ≡ with_link (⟦<Self as Listener>⟧.accepted self.old)
-            (record { source_faults = C.Source.faults link; sink_faults = C.Sink.faults link; left = C.left link })) }
+        ensures accepted { IfOk result
+            (λ link. ⟦<Self as Listener>⟧.accepted self.new
+            ≡ with_link (⟦<Self as Listener>⟧.accepted self.old)
+            (record {
+              source_faults = C.Source.faults link;
+              sink_faults = C.Sink.faults link;
+              left = C.left link;
+            })) }
         ensures fresh { IfOk result (λ link. IsFresh (C.written link)) }
-        ensures failed { OnErr result (⟦<Self as Listener>⟧.accepted self.new ≡ ⟦<Self as Listener>⟧.accepted self.old) }
+        ensures failed { OnErr result
+            (⟦<Self as Listener>⟧.accepted self.new ≡ ⟦<Self as Listener>⟧.accepted self.old) }
     {
         match self.waiting.next() {
             Some(link) => Ok(link),

@@ -14,9 +14,11 @@ ghost use Rattle.plan_check.specs.declared.faults.Verdict.TheVariants as verdict
 use crate::faults::{FaultKind, Verdict};
 use candidate_order::{Order, Scan, all_accept, next_lessening};
 use goal_set::{AnyGoal, GoalKind, GoalList, Trace, goals_of};
-use load_model::{Assign, Case, LoadBook, Memory};
-use move_actions::{Action, Goal, Moves, legal, measure};
+use load_model::{Assign, Case, LoadBook};
+use move_actions::{Goal, Moves, legal, measure};
+use plan_terms::{Action, Memory};
 use std::alloc::Global;
+use std::thread::Threads;
 
 /// What a turn comes to.
 #[derive(Drop)]
@@ -40,8 +42,10 @@ fn action_fault<G: Goal>(
     requires made_goal { G.made_for goal.now case.now }
     requires belongs { IsBookOf case.now book.now }
     ensures { MatchOption result
-        (Step case.now (map (λ g. G.meaning g case.now) earlier.now) (G.meaning goal.now case.now) book.now.lists action)
-        (IsActionFault case.now (map (λ g. G.meaning g case.now) earlier.now) (G.meaning goal.now case.now) book.now.lists action) }
+        (Step case.now (map (λ g. G.meaning g case.now) earlier.now) (G.meaning goal.now case.now)
+        book.now.lists action)
+        (IsActionFault case.now (map (λ g. G.meaning g case.now) earlier.now)
+        (G.meaning goal.now case.now) book.now.lists action) }
 {
     if !legal(case, book, action) {
         return Some(FaultKind::Illegal);
@@ -69,7 +73,8 @@ fn take_step(alloc: Global, case: &Case, book: &mut LoadBook, action: Action) ->
 
 // An action that is left where a turn ends: a legal one that the earlier goals accept and that lessens the goal. The planner's search finds
 // it, since its contract is the definition's: to try each action by itself would take minutes where the plan took a second.
-fn action_left<G: Goal>(
+fn action_left<G: Goal + Sync, R: Threads + Sync>(
+    rt: &R,
     alloc: Global,
     case: &Case,
     book: &LoadBook,
@@ -79,17 +84,21 @@ fn action_left<G: Goal>(
     requires made { All (λ g. G.made_for g case.now) earlier.now }
     requires made_goal { G.made_for goal.now case.now }
     requires belongs { IsBookOf case.now book.now }
-    ensures { IfOk result (λ left. MatchOption left
-        (NoneLeft case.now (map (λ g. G.meaning g case.now) earlier.now) (G.meaning goal.now case.now) book.now.lists)
-        (λ a. Step case.now (map (λ g. G.meaning g case.now) earlier.now) (G.meaning goal.now case.now) book.now.lists a)) }
+    ensures { IfOk result
+        (λ left. MatchOption left
+        (NoneLeft case.now (map (λ g. G.meaning g case.now) earlier.now)
+        (G.meaning goal.now case.now) book.now.lists)
+        (λ a. Step case.now (map (λ g. G.meaning g case.now) earlier.now)
+        (G.meaning goal.now case.now) book.now.lists a)) }
 {
     let order = Order::new(alloc, case, book)?;
     let mut scan = Scan::new(alloc, case, earlier)?;
-    next_lessening(alloc, case, book, &order, &mut scan, earlier, goal)
+    next_lessening(rt, alloc, case, book, &order, &mut scan, earlier, goal)
 }
 
 // Follows the actions of a goal's turn.
-fn judge_turn<G: Goal>(
+fn judge_turn<G: Goal + Sync, R: Threads + Sync>(
+    rt: &R,
     alloc: Global,
     case: &Case,
     book: LoadBook,
@@ -100,7 +109,9 @@ fn judge_turn<G: Goal>(
     requires made { All (λ g. G.made_for g case.now) earlier.now }
     requires made_goal { G.made_for goal.now case.now }
     requires belongs { IsBookOf case.now book }
-    ensures { IfOk result (IsTurnEnd case.now (map (λ g. G.meaning g case.now) earlier.now) (G.meaning goal.now case.now) book.lists actions.now) }
+    ensures { IfOk result
+        (IsTurnEnd case.now (map (λ g. G.meaning g case.now) earlier.now)
+        (G.meaning goal.now case.now) book.lists actions.now) }
 {
     let mut here = book;
     for (place, action) in actions.iter().enumerate() {
@@ -115,7 +126,7 @@ fn judge_turn<G: Goal>(
     if measure(goal, case, &here) == 0 {
         return Ok(TurnEnd::Done(here));
     }
-    let left = action_left(alloc, case, &here, earlier, goal)?;
+    let left = action_left(rt, alloc, case, &here, earlier, goal)?;
     match left {
         Some(_) => Ok(TurnEnd::Fault {
             action: actions.len(),
@@ -135,7 +146,8 @@ fn is_goal_at(kinds: &[GoalKind], place: usize, goal: GoalKind) -> bool
 // Whether the trace is said to fail with the turn at the place, its last.
 fn fails_at(trace: &Trace, place: usize) -> bool
     requires { place < length trace.now.turns.items }
-    ensures { IsTrue result ↔ ((trace.now.planned ≡ false) × (place + 1 ≡ length trace.now.turns.items)) }
+    ensures { IsTrue result
+        ↔ ((trace.now.planned ≡ false) × (place + 1 ≡ length trace.now.turns.items)) }
 {
     !trace.planned && place + 1 == trace.turns.len()
 }
@@ -147,7 +159,8 @@ fn fault(turn: usize, action: usize, kind: FaultKind) -> Verdict
 }
 
 // Judges the turns in order, up to the first that is wrong or at whose end a hard goal is broken.
-fn judge_turns(
+fn judge_turns<R: Threads + Sync>(
+    rt: &R,
     alloc: Global,
     case: &Case,
     start: &Assign,
@@ -158,9 +171,13 @@ fn judge_turns(
     requires made { All (λ g. any_made g case.now) goals.now }
     requires meanings { map (λ g. any_meaning g case.now) goals.now ≡ meanings case.now kinds.now }
     requires belongs { Belongs case.now start.now }
-    ensures { IfOk result (λ v. MatchOption v
-        (IsGoodBefore (record { case = case.now; start = start.now; goals = kinds.now; trace = trace.now }) (length trace.now.turns.items))
-        (Judges (record { case = case.now; start = start.now; goals = kinds.now; trace = trace.now }))) }
+    ensures { IfOk result
+        (λ v. MatchOption v
+        (IsGoodBefore
+        (record { case = case.now; start = start.now; goals = kinds.now; trace = trace.now })
+        (length trace.now.turns.items))
+        (Judges
+        (record { case = case.now; start = start.now; goals = kinds.now; trace = trace.now }))) }
 {
     let mut book = LoadBook::new(alloc, case, start)?;
     for (place, turn) in trace.turns.iter().enumerate() {
@@ -169,7 +186,7 @@ fn judge_turns(
         }
         let earlier = &goals[..place];
         let actions = turn.actions.as_slice();
-        match judge_turn(alloc, case, book, earlier, &goals[place], actions)? {
+        match judge_turn(rt, alloc, case, book, earlier, &goals[place], actions)? {
             TurnEnd::Done(next) => book = next,
             TurnEnd::Broken if fails_at(trace, place) => return Ok(Some(Verdict::Good)),
             TurnEnd::Broken => {
@@ -184,7 +201,8 @@ fn judge_turns(
 /// Whether the trace is good for the case, the start and the goals, or its first fault. Turn after turn: the goal, each action
 /// in order, what the turn leaves, and whether it should have been the last; then whether a goal is left and whether the trace
 /// is said to be planned. Each action is judged on loads that are summed afresh from the lists where it stands.
-pub fn check(
+pub fn check<R: Threads + Sync>(
+    rt: &R,
     alloc: Global,
     case: &Case,
     start: &Assign,
@@ -192,11 +210,13 @@ pub fn check(
     trace: &Trace,
 ) -> Result<Verdict, Memory>
     requires { Belongs case.now start.now }
-    ensures { IfOk result (Judges (record { case = case.now; start = start.now; goals = goals.now; trace = trace.now })) }
+    ensures { IfOk result
+        (Judges
+        (record { case = case.now; start = start.now; goals = goals.now; trace = trace.now })) }
 {
     let kinds = goals.kinds();
     let made = goals_of(alloc, kinds, case)?;
-    let verdict = judge_turns(alloc, case, start, kinds, &made, trace)?;
+    let verdict = judge_turns(rt, alloc, case, start, kinds, &made, trace)?;
     if let Some(verdict) = verdict {
         return Ok(verdict);
     }

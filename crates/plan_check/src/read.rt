@@ -7,8 +7,7 @@ ghost use Rattle.plan_check.specs.Reading.{Gives};
 ghost use Rattle.plan_check.specs.Text.{trace_view};
 
 use goal_set::{GoalKind, Trace, Turned};
-use load_model::Memory;
-use plan_terms::{Action, Actions};
+use plan_terms::{Action, Actions, Memory};
 use serde_json::Value;
 use std::alloc::{AllocError, AllocFailed, Global};
 

@@ -9,8 +9,7 @@ ghost use Rattle.plan_check.specs.Reading.{IsReadBack};
 ghost use Rattle.plan_check.specs.Text.{action_data, result_name, trace_data, trace_text, trace_view, turn_data};
 
 use goal_set::{Trace, Turned};
-use load_model::Memory;
-use plan_terms::Action;
+use plan_terms::{Action, Memory};
 use serde_json::{Value, json};
 use std::alloc::{AllocError, Global};
 

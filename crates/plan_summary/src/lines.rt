@@ -4,8 +4,9 @@ ghost use Rattle.plan_terms.specs.Belongs.{IsBookOf};
 ghost use Rattle.plan_summary.specs.Summary.{goal_line, goal_lines};
 
 use goal_set::{GoalKind, Turned, goal_of};
-use load_model::{Case, LoadBook, Memory};
+use load_model::{Case, LoadBook};
 use move_actions::measure;
+use plan_terms::Memory;
 use std::alloc::Global;
 
 // Puts a goal's line at the end: its name, and how far the one book and the other exceed it.
@@ -19,7 +20,8 @@ fn push_line(
 ) -> Result<(), Memory>
     requires start { IsBookOf case.now start.now }
     requires end { IsBookOf case.now end.now }
-    ensures { OnOk result (text.new.items ≡ text.old.items ++ goal_line case.now start.now.lists end.now.lists kind) }
+    ensures { OnOk result
+        (text.new.items ≡ text.old.items ++ goal_line case.now start.now.lists end.now.lists kind) }
 {
     let goal = goal_of(alloc, kind, case)?;
     let before = measure(&goal, case, start);
@@ -41,7 +43,10 @@ pub fn push_lines(
 ) -> Result<(), Memory>
     requires start { IsBookOf case.now start.now }
     requires end { IsBookOf case.now end.now }
-    ensures { OnOk result (text.new.items ≡ text.old.items ++ goal_lines case.now start.now.lists end.now.lists (map (λ t. t.goal) turns.now)) }
+    ensures { OnOk result
+        (text.new.items
+        ≡ text.old.items
+        ++ goal_lines case.now start.now.lists end.now.lists (map (λ t. t.goal) turns.now)) }
 {
     for turn in turns {
         push_line(alloc, text, case, start, end, turn.goal)?;

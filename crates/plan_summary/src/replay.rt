@@ -6,8 +6,9 @@ ghost use Rattle.plan_terms.specs.Trace.{after_turns};
 ghost use Rattle.plan_summary.specs.Legal.{AreLegal, AreLegalTurns};
 
 use goal_set::Turned;
-use load_model::{Assign, Case, LoadBook, Memory};
-use move_actions::{Action, Moves};
+use load_model::{Assign, Case, LoadBook};
+use move_actions::Moves;
+use plan_terms::{Action, Memory};
 use std::alloc::Global;
 
 // Makes the changes of a turn's actions, in order.
@@ -31,7 +32,8 @@ pub fn book_after(
 ) -> Result<LoadBook, Memory>
     requires belongs { Belongs case.now start.now }
     requires legal { AreLegalTurns case.now start.now (map (λ t. t.actions) turns.now) }
-    ensures lists { IfOk result (λ b. b.lists ≡ after_turns (map (λ t. t.actions) turns.now) start.now) }
+    ensures lists { IfOk result
+        (λ b. b.lists ≡ after_turns (map (λ t. t.actions) turns.now) start.now) }
     ensures belongs { IfOk result (IsBookOf case.now) }
 {
     let mut book = LoadBook::new(alloc, case, start)?;

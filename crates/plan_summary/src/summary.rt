@@ -8,7 +8,8 @@ ghost use Rattle.plan_summary.specs.Summary.{failure_summary, goal_lines, plan_s
 use crate::lines::push_lines;
 use crate::replay::book_after;
 use goal_set::{Failure, GoalKind, Plan, Turned};
-use load_model::{Assign, Case, LoadBook, Memory};
+use load_model::{Assign, Case, LoadBook};
+use plan_terms::Memory;
 use proposal_set::proposals;
 use std::alloc::Global;
 
@@ -23,7 +24,10 @@ fn with_lines(
 ) -> Result<Vec<u8>, Memory>
     requires start { Belongs case.now start.now }
     requires end { IsBookOf case.now end.now }
-    ensures { IfOk result (λ text. text.items ≡ string_bytes first_lines ++ goal_lines case.now start.now end.now.lists (map (λ t. t.goal) turns.now)) }
+    ensures { IfOk result
+        (λ text. text.items
+        ≡ string_bytes first_lines
+        ++ goal_lines case.now start.now end.now.lists (map (λ t. t.goal) turns.now)) }
 {
     let start = LoadBook::new(alloc, case, start)?;
     let mut text = first_lines.into_bytes();

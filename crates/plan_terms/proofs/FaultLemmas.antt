@@ -7,7 +7,8 @@ use Rattle.std.proofs.lemmas.List.Elements.{All-nil, All-cons}
 use Rattle.std.proofs.lemmas.List.Folds.{list_any-append}
 use Rattle.plan_terms.specs.Belongs.{Belongs, IsReplicaList, distinct}
 use Rattle.plan_terms.specs.Cluster.{Cluster, Lists, has, is_known}
-use Rattle.plan_terms.specs.Faults.{IsCase, first_of, broken_limit, case_fault, member_fault, list_fault, lists_fault_from, lists_fault, is_heavy, is_large, has_bad_chunks, topics}
+use Rattle.std.specs.Option.{option_or}
+use Rattle.plan_terms.specs.Faults.{IsCase, broken_limit, case_fault, member_fault, list_fault, lists_fault_from, lists_fault, is_heavy, is_large, has_bad_chunks, topics}
 use Rattle.plan_terms.specs.declared.cluster.Broker.{Broker}
 use Rattle.plan_terms.specs.declared.cluster.Part.{Part}
 use Rattle.plan_terms.specs.declared.faults.CaseFault.{CaseFault}
@@ -16,9 +17,9 @@ use Rattle.plan_terms.specs.declared.faults.Limit.{Limit}
 use Rattle.plan_terms.specs.declared.faults.Limit.TheVariants as limit
 
 -- neither of two faults is there
-pub first_of-None : (x y : Option CaseFault) → first_of x y ≡ None → (x ≡ None) × (y ≡ None)
-first_of-None None y h = (refl, h)
-first_of-None (Some e) y h = absurd cc
+pub option_or-None : (x y : Option CaseFault) → option_or x y ≡ None → (x ≡ None) × (y ≡ None)
+option_or-None None y h = (refl, h)
+option_or-None (Some e) y h = absurd cc
 
 -- a test that would be a fault fails, and the rest has none
 passes : {X : Type 0} (b : Bool) (e : X) (rest : Option X) → (if b then Some e else rest) ≡ None → (b ≡ false) × (rest ≡ None)
@@ -62,7 +63,7 @@ list_good c p list h =
 lists_good : (c : Cluster) (p : ℕ) (lists : Lists) → lists_fault_from c p lists ≡ None → All IsReplicaList lists × All (λ list. list_all (is_known c) list ≡ true) lists
 lists_good c p [] h = (All-nil IsReplicaList, All-nil (λ list. list_all (is_known c) list ≡ true))
 lists_good c p (list ∷ lists) h =
-    let parts = first_of-None (list_fault c p list) (lists_fault_from c (suc p) lists) h in
+    let parts = option_or-None (list_fault c p list) (lists_fault_from c (suc p) lists) h in
     let first = list_good c p list parts.0 in
     let rest = lists_good c (suc p) lists parts.1 in
     (All-cons IsReplicaList list lists first.0 rest.0, All-cons (λ l. list_all (is_known c) l ≡ true) list lists first.1 rest.1)
@@ -90,7 +91,7 @@ pub record WithinLimits (brokers : List Broker) (parts : List Part) : Type 0 whe
 pub WithinLimits-faultless : (brokers : List Broker) (parts : List Part) → case_fault brokers parts ≡ None → WithinLimits brokers parts
 unfolding case_fault broken_limit
 WithinLimits-faultless brokers parts h =
-    let limits = limit-None (broken_limit brokers parts) (first_of-None _ _ h).0 in
+    let limits = limit-None (broken_limit brokers parts) (option_or-None _ _ h).0 in
     let one = passes (nat_lt 200 (length brokers)) limit.Brokers _ limits in
     let two = passes (nat_lt 1000 (length (topics parts))) limit.Topics _ one.1 in
     let three = passes (nat_lt 10000 (length parts)) limit.Partitions _ two.1 in

@@ -1,3 +1,4 @@
+pub mod CommaLemmas
 pub mod Complete
 pub mod DigitLemmas
 pub mod EffectLemmas

@@ -12,7 +12,7 @@ use Rattle.plan_terms.specs.Faults.{IsCase, case_fault, broker_repeat, first_rep
 use Rattle.plan_terms.specs.Laws.{same_action}
 use Rattle.plan_terms.specs.Legal.{is_legal, each_below, moves_from, moves_of, leads_of, swaps_with, swaps_of, candidates, all_actions}
 use Rattle.plan_terms.proofs.Complete.{Among, here, later, listed}
-use Rattle.plan_terms.proofs.FaultLemmas.{first_of-None}
+use Rattle.plan_terms.proofs.FaultLemmas.{option_or-None}
 use Rattle.plan_terms.specs.declared.cluster.Broker.{Broker}
 use Rattle.plan_terms.specs.declared.actions.Action.{Action}
 use Rattle.plan_terms.specs.declared.actions.Action.TheVariants.{Move, Lead, Swap}
@@ -166,7 +166,7 @@ option_map-None f (Some x) h = absurd cc
 
 no_repeat : (c : Cluster) → IsCase c → first_repeat same_id c.brokers ≡ None
 unfolding case_fault broker_repeat
-no_repeat c i = option_map-None _ (first_repeat same_id c.brokers) (first_of-None (broker_repeat c.brokers) _ (first_of-None _ _ i.faultless).1).0
+no_repeat c i = option_map-None _ (first_repeat same_id c.brokers) (option_or-None (broker_repeat c.brokers) _ (option_or-None _ _ i.faultless).1).0
 
 same_action-refl : (a : Action) → same_action a a ≡ true
 same_action-refl (Move p s t) = rw (eq-eqb p p refl, eq-eqb s s refl, eq-eqb t t refl) refl

@@ -1,5 +1,5 @@
 -- A cluster, and an assignment of its partitions: one replica list each, whose first member leads.
-use Rattle.std.specs.Prelude.{ℕ, Bool, false, ◌==◌, List, [], ◌∷◌, get_or, find, Option, is_some}
+use Rattle.std.specs.Prelude.{ℕ, Bool, false, ◌==◌, List, [], ◌∷◌, map, get_or, find, Option, is_some}
 use Rattle.std.specs.List.{list_any}
 use Rattle.std.specs.Option.{option_map_or}
 use Rattle.plan_terms.specs.declared.cluster.Broker.{Broker}
@@ -28,6 +28,14 @@ has list b = list_any (λ x. x == b) list
 abbrev pub leads : List ℕ → ℕ → Bool
 leads [] b = false
 leads (x ∷ xs) b = x == b
+
+-- the ids, in order
+abbrev pub ids_of : List Broker → List ℕ
+ids_of brokers = map (λ b. b.id) brokers
+
+-- the id of the broker at a place
+abbrev pub id_at : List Broker → ℕ → ℕ
+id_at brokers i = get_or (ids_of brokers) i 0
 
 -- the broker of this id
 abbrev pub broker_of : List Broker → ℕ → Option Broker

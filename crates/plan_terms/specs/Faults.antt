@@ -1,7 +1,9 @@
 -- What is wrong with a cluster or with its lists: the first fault, in the order in which they are named here.
 use Rattle.std.specs.Prelude.{◌≡◌, slice_index, ℕ, suc, Bool, not, ◌==◌, ◌&&◌, ◌||◌, nat_lt, nat_le, List, [], ◌∷◌, ◌++◌, length, get_or, map, bytes_eq, Option, Some, None, option_map, if◌then◌else◌}
+use Rattle.std.specs.Option.{option_or}
 use Rattle.std.specs.List.{All, list_any}
 use Rattle.plan_terms.specs.Cluster.{Cluster, Lists, has, is_known}
+use Rattle.plan_terms.specs.Resources.{NW_OUT}
 use Rattle.plan_terms.specs.declared.cluster.Broker.{Broker}
 use Rattle.plan_terms.specs.declared.cluster.MinLeaders.{MinLeaders}
 use Rattle.plan_terms.specs.declared.cluster.Options.{Options}
@@ -10,11 +12,6 @@ use Rattle.plan_terms.specs.declared.faults.CaseFault.{CaseFault}
 use Rattle.plan_terms.specs.declared.faults.CaseFault.TheVariants.{DuplicateBroker, DuplicatePartition, UnknownBroker, DuplicateReplica, EmptyReplicas, OverLimit, DuplicateMinLeaders}
 use Rattle.plan_terms.specs.declared.faults.Limit.{Limit}
 use Rattle.plan_terms.specs.declared.faults.Limit.TheVariants as limit
-
--- the first fault there is
-abbrev pub first_of : Option CaseFault → Option CaseFault → Option CaseFault
-first_of None later = later
-first_of (Some e) later = Some e
 
 -- the place of the first member that is the same as an earlier one, where `seen` came before and n is the next place
 abbrev pub repeat_from : {X : Type 0} → (X → X → Bool) → List X → ℕ → List X → Option ℕ
@@ -74,7 +71,7 @@ part_repeat parts = option_map DuplicatePartition (first_repeat same_part parts)
 
 -- the first fault of brokers and partitions: a limit, a broker that stands twice, a partition that stands twice
 unfoldable pub case_fault : List Broker → List Part → Option CaseFault
-case_fault brokers parts = first_of (option_map OverLimit (broken_limit brokers parts)) (first_of (broker_repeat brokers) (part_repeat parts))
+case_fault brokers parts = option_or (option_map OverLimit (broken_limit brokers parts)) (option_or (broker_repeat brokers) (part_repeat parts))
 
 -- the first of the least leaders whose topic an earlier one names
 unfoldable pub leaders_repeat : List MinLeaders → Option CaseFault
@@ -82,7 +79,7 @@ leaders_repeat min_leaders = option_map DuplicateMinLeaders (first_repeat same_t
 
 -- the first fault of a cluster: that of its brokers and partitions, then a topic that the least leaders name twice
 unfoldable pub cluster_fault : List Broker → List Part → Options → Option CaseFault
-cluster_fault brokers parts options = first_of (case_fault brokers parts) (leaders_repeat options.min_leaders)
+cluster_fault brokers parts options = option_or (case_fault brokers parts) (leaders_repeat options.min_leaders)
 
 -- the first fault among the members of partition p's list, where `seen` came before
 abbrev pub member_fault : Cluster → ℕ → List ℕ → List ℕ → Option CaseFault
@@ -100,7 +97,7 @@ list_fault c p list =
 -- the first fault of the lists, the first of which is partition p's
 abbrev pub lists_fault_from : Cluster → ℕ → Lists → Option CaseFault
 lists_fault_from c p [] = None
-lists_fault_from c p (list ∷ lists) = first_of (list_fault c p list) (lists_fault_from c (suc p) lists)
+lists_fault_from c p (list ∷ lists) = option_or (list_fault c p list) (lists_fault_from c (suc p) lists)
 
 unfoldable pub lists_fault : Cluster → Lists → Option CaseFault
 lists_fault c lists = lists_fault_from c 0 lists
@@ -110,4 +107,4 @@ lists_fault c lists = lists_fault_from c 0 lists
 pub record IsCase (c : Cluster) : Type 0 where
   pub faultless : case_fault c.brokers c.parts ≡ None
   pub topics_once : leaders_repeat c.options.min_leaders ≡ None
-  pub followers : All (λ p. slice_index p.loads.follow 2 ≡ 0) c.parts
+  pub followers : All (λ p. slice_index p.loads.follow NW_OUT ≡ 0) c.parts

@@ -1,6 +1,8 @@
 pub mod Belongs
+pub mod Bytes
 pub mod Change
 pub mod Cluster
+pub mod Commas
 pub mod Digits
 pub mod Effect
 pub mod Examples
@@ -13,5 +15,7 @@ pub mod Legal
 pub mod Load
 pub mod Loads
 pub mod Racks
+pub mod Resources
 pub mod States
+pub mod Texts
 pub mod Trace

@@ -2,6 +2,7 @@
 use Rattle.std.specs.Prelude.{ℕ, ◌+◌, ◌*◌, ◌==◌, ◌&&◌, List, [], ◌∷◌, slice_index, bytes_eq, if◌then◌else◌}
 use Rattle.std.specs.List.{count_by, sum_by}
 use Rattle.plan_terms.specs.Cluster.{Cluster, Lists, leads}
+use Rattle.plan_terms.specs.Resources.{NW_IN, NW_OUT}
 use Rattle.plan_terms.specs.declared.cluster.Part.{Part}
 
 -- how many places broker b has
@@ -37,8 +38,8 @@ topic_leaders c topic b lists = sum_parts (λ p list. if bytes_eq p.topic topic 
 
 -- what b would send if it led every partition of which it is a member: the leaders' NW_OUT over all its places
 abbrev pub potential_out : Cluster → ℕ → Lists → ℕ
-potential_out c b lists = sum_parts (λ p list. slice_index p.loads.lead 2 * count_by (λ x. x == b) list) c.parts lists
+potential_out c b lists = sum_parts (λ p list. slice_index p.loads.lead NW_OUT * count_by (λ x. x == b) list) c.parts lists
 
 -- the leaders' NW_IN over the first places of b
 abbrev pub leader_in : Cluster → ℕ → Lists → ℕ
-leader_in c b lists = sum_parts (λ p list. if leads list b then slice_index p.loads.lead 1 else 0) c.parts lists
+leader_in c b lists = sum_parts (λ p list. if leads list b then slice_index p.loads.lead NW_IN else 0) c.parts lists

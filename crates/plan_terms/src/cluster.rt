@@ -3,9 +3,8 @@ ghost use Rattle.std.specs.Prelude.{◌≡◌, IfOk, Some};
 ghost use Rattle.std.specs.Option.{option_map};
 ghost use Rattle.plan_terms.specs.States.{is_dead, is_new, is_demoted};
 
-use crate::{Memory, RackName, Ratio, Topic};
+use crate::{ListOf, Memory, RackName, Ratio, Topic};
 use std::alloc::Global;
-use std::marker::Model;
 
 /// Four numbers, one for each resource: CPU, NW_IN, NW_OUT, DISK.
 pub type Res4 = [u64; 4];
@@ -133,44 +132,18 @@ impl MinLeaders {
 }
 
 /// Topics with their least numbers of leaders, in the order in which the file names them.
-#[derive(Drop)]
-pub struct MinLeadersList {
-    items: Vec<MinLeaders>,
-}
-
-impl Model for MinLeadersList {
-    ghost use Rattle.std.specs.Prelude.{List};
-    ghost use Rattle.plan_terms.specs.declared.cluster.MinLeaders.{MinLeaders};
-
-    ghost Value = { List MinLeaders };
-
-    ghost view = { λ l. l.items.items };
-}
+pub type MinLeadersList = ListOf<MinLeaders>;
 
 impl MinLeadersList {
-    /// The list of these.
-    pub fn new(items: Vec<MinLeaders>) -> Self
-        ensures { result ≡ items.items }
-    {
-        MinLeadersList { items }
-    }
-
-    /// The members, in order.
-    pub fn as_slice(&self) -> &[MinLeaders]
-        ensures { result.now ≡ self.now }
-    {
-        self.items.as_slice()
-    }
-
     /// The same list.
     pub fn copy(&self, alloc: Global) -> Result<Self, Memory>
         ensures { IfOk result (λ l. l ≡ self.now) }
     {
         let mut items = Vec::new(alloc);
-        for item in &self.items {
+        for item in self.as_slice() {
             items.push(item.copy(alloc)?)?;
         }
-        Ok(MinLeadersList { items })
+        Ok(ListOf::new(items))
     }
 }
 

@@ -2,6 +2,7 @@
 ghost use Rattle.std.specs.Prelude.{◌≡◌};
 
 use std::alloc::{AllocError, AllocFailed};
+use std::{error, fmt};
 use thiserror::Error;
 
 /// Want of memory. It is merged with no other answer.
@@ -26,50 +27,86 @@ impl<T: Drop> From<AllocFailed<T>> for Memory {
 }
 
 /// A limit of clusters.
-#[derive(Clone, Copy, Debug, PartialEq, Eq, Error)]
+#[derive(Clone, Copy, Debug, PartialEq, Eq)]
 pub enum Limit {
-    #[error("at most 200 brokers")]
+    /// At most 200 brokers.
     Brokers,
-    #[error("at most 1,000 topics")]
+    /// At most 1,000 topics.
     Topics,
-    #[error("at most 10,000 partitions")]
+    /// At most 10,000 partitions.
     Partitions,
-    #[error("each load value below 2^32")]
+    /// Each load value below 2^32.
     Load,
-    #[error("each capacity below 2^40")]
+    /// Each capacity below 2^40.
     Capacity,
-    #[error("1 to 1,000 chunks")]
+    /// 1 to 1,000 chunks.
     Chunks,
-    #[error("at most 8 replicas of a partition")]
+    /// At most 8 replicas of a partition.
     Replicas,
 }
 
+/// The name of the limit.
+impl fmt::Display for Limit {
+    ghost use Rattle.std.specs.Prelude.{Some};
+    ghost use Rattle.plan_terms.specs.Texts.{limit_text};
+
+    ghost output = { λ limit. Some (limit_text limit) };
+
+    fn fmt<W: fmt::Write>(&self, f: &mut fmt::Formatter<W>) -> fmt::Result {
+        match self {
+            Limit::Brokers => write!(f, "Brokers"),
+            Limit::Topics => write!(f, "Topics"),
+            Limit::Partitions => write!(f, "Partitions"),
+            Limit::Load => write!(f, "Load"),
+            Limit::Capacity => write!(f, "Capacity"),
+            Limit::Chunks => write!(f, "Chunks"),
+            Limit::Replicas => write!(f, "Replicas"),
+        }
+    }
+}
+
 /// Why brokers, partitions or lists make no cluster.
-#[derive(Clone, Copy, Debug, PartialEq, Eq, Error)]
+#[derive(Clone, Copy, Debug, PartialEq, Eq)]
 pub enum CaseFault {
-    #[error("want of memory")]
+    /// Want of memory.
     Memory,
     /// The id of the first broker that repeats an earlier one.
-    #[error("broker {0} stands twice")]
     DuplicateBroker(u32),
     /// The place of the first partition that repeats an earlier one.
-    #[error("partition {0} stands twice")]
     DuplicatePartition(usize),
     /// The place of the partition, and the id that no broker has.
-    #[error("partition {0} names the unknown broker {1}")]
     UnknownBroker(usize, u32),
     /// The place of the partition, and the id that stands twice in its list.
-    #[error("partition {0} names broker {1} twice")]
     DuplicateReplica(usize, u32),
     /// The place of the partition without a replica.
-    #[error("partition {0} has no replica")]
     EmptyReplicas(usize),
-    #[error("over the limit: {0}")]
     OverLimit(Limit),
     /// The place of the first member of the least leaders that names the topic of an earlier one.
-    #[error("least leaders {0} name a topic twice")]
     DuplicateMinLeaders(usize),
 }
+
+/// The name of the fault with its places and ids.
+impl fmt::Display for CaseFault {
+    ghost use Rattle.std.specs.Prelude.{Some};
+    ghost use Rattle.plan_terms.specs.Texts.{case_text};
+
+    ghost output = { λ fault. Some (case_text fault) };
+
+    fn fmt<W: fmt::Write>(&self, f: &mut fmt::Formatter<W>) -> fmt::Result {
+        match self {
+            CaseFault::Memory => write!(f, "Memory"),
+            CaseFault::DuplicateBroker(id) => write!(f, "DuplicateBroker {id}"),
+            CaseFault::DuplicatePartition(place) => write!(f, "DuplicatePartition {place}"),
+            CaseFault::UnknownBroker(place, id) => write!(f, "UnknownBroker {place} {id}"),
+            CaseFault::DuplicateReplica(place, id) => write!(f, "DuplicateReplica {place} {id}"),
+            CaseFault::EmptyReplicas(place) => write!(f, "EmptyReplicas {place}"),
+            CaseFault::OverLimit(limit) => write!(f, "OverLimit {limit}"),
+            CaseFault::DuplicateMinLeaders(place) => write!(f, "DuplicateMinLeaders {place}"),
+        }
+    }
+}
+
+impl error::Error for CaseFault {}
 
 impl From<AllocError> for CaseFault {
     ghost use Rattle.plan_terms.specs.declared.faults.CaseFault.TheVariants as fault;

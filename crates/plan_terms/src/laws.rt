@@ -32,7 +32,8 @@ pub fn each_action_is_listed_once()
 /// What the definitions compute on small clusters.
 pub fn definitions_on_examples()
     // Two replicas on one rack can each move to the other, and the follower can lead.
-    ensures actions { all_actions shared_rack ((0 ∷ 1 ∷ []) ∷ []) ≡ Action.Move 0 0 2 ∷ Action.Move 0 1 2 ∷ Action.Lead 0 1 ∷ [] }
+    ensures actions { all_actions shared_rack ((0 ∷ 1 ∷ []) ∷ [])
+        ≡ Action.Move 0 0 2 ∷ Action.Move 0 1 2 ∷ Action.Lead 0 1 ∷ [] }
     ensures shared { measure (rack_goal shared_rack) ((0 ∷ 1 ∷ []) ∷ []) ≡ 1 }
     ensures apart { measure (rack_goal shared_rack) ((2 ∷ 1 ∷ []) ∷ []) ≡ 0 }
     ensures too_many { measure (rack_goal shared_rack) ((0 ∷ 1 ∷ 2 ∷ []) ∷ []) ≡ 1 }

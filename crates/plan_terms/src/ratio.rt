@@ -104,7 +104,10 @@ fn denominator(digits: usize) -> u32
 }
 
 fn decimal(before: &str, behind: &str) -> Option<Ratio>
-    ensures { result ≡ option_and_then (λ n. option_map (with_decimals n (length behind.now)) (number_of 3 behind.now)) (number_of 4 before.now) }
+    ensures { result
+        ≡ option_and_then
+        (λ n. option_map (with_decimals n (length behind.now)) (number_of 3 behind.now))
+        (number_of 4 before.now) }
 {
     let number = read_digits(before, 4)? as u32;
     let part = read_digits(behind, 3)? as u32;

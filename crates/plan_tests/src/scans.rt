@@ -6,7 +6,6 @@ ghost use Rattle.plan_terms.specs.Belongs.{Belongs, IsBookOf};
 
 use crate::clusters::CLUSTERS;
 use candidate_order::{Order, Scan, next_lessening, plain_next};
-use cluster_json::read_cluster;
 use goal_optimizer::{PlanFault, optimise};
 use goal_set::{GoalList, Trace, goals_of};
 use load_model::{Assign, Case, LoadBook};
@@ -14,10 +13,12 @@ use move_actions::Goal;
 use plan_check::{Verdict, check};
 use std::alloc::Global;
 use std::process::Abort;
+use std::thread::Threads;
+use test_clusters::cluster;
 
 // Both find an action for the goal behind those before it, or neither does.
-fn expect_same<G: Goal>(
-    rt: &impl Abort,
+fn expect_same<G: Goal + Sync, R: Threads + Sync + Abort>(
+    rt: &R,
     alloc: Global,
     case: &Case,
     book: &LoadBook,
@@ -31,15 +32,15 @@ fn expect_same<G: Goal>(
     requires order { IsOrderOf case.now book.now.lists order.now }
 {
     let mut scan = Scan::new(alloc, case, earlier).expect(rt, "memory");
-    let found = next_lessening(alloc, case, book, order, &mut scan, earlier, goal);
+    let found = next_lessening(rt, alloc, case, book, order, &mut scan, earlier, goal);
     let found = found.expect(rt, "memory").is_some();
     let plain = plain_next(alloc, case, book, earlier, goal);
     assert_eq!(rt; found, plain.expect(rt, "memory").is_some());
 }
 
 // The same for each of some goals in order.
-fn expect_same_for_each<G: Goal>(
-    rt: &impl Abort,
+fn expect_same_for_each<G: Goal + Sync, R: Threads + Sync + Abort>(
+    rt: &R,
     alloc: Global,
     case: &Case,
     book: &LoadBook,
@@ -56,7 +57,13 @@ fn expect_same_for_each<G: Goal>(
 }
 
 // The same of these lists.
-fn expect_same_on(rt: &impl Abort, alloc: Global, case: &Case, lists: &Assign, goals: &GoalList)
+fn expect_same_on<R: Threads + Sync + Abort>(
+    rt: &R,
+    alloc: Global,
+    case: &Case,
+    lists: &Assign,
+    goals: &GoalList,
+)
     requires { Belongs case.now lists.now }
 {
     let made = goals_of(alloc, goals.kinds(), case).expect(rt, "memory");
@@ -65,8 +72,8 @@ fn expect_same_on(rt: &impl Abort, alloc: Global, case: &Case, lists: &Assign, g
     expect_same_for_each(rt, alloc, case, &book, &order, &made);
 }
 
-fn expect_good(
-    rt: &impl Abort,
+fn expect_good<R: Threads + Sync + Abort>(
+    rt: &R,
     alloc: Global,
     case: &Case,
     start: &Assign,
@@ -75,20 +82,18 @@ fn expect_good(
 )
     requires { Belongs case.now start.now }
 {
-    let verdict = check(alloc, case, start, goals, trace).expect(rt, "memory");
+    let verdict = check(rt, alloc, case, start, goals, trace).expect(rt, "memory");
     assert_eq!(rt; verdict, Verdict::Good);
 }
 
-fn expect_cluster(rt: &impl Abort, alloc: Global, text: &str) {
-    let Ok(file) = read_cluster(alloc, text.as_bytes()) else {
-        panic!(rt; "no cluster");
-    };
+fn expect_cluster<R: Threads + Sync + Abort>(rt: &R, alloc: Global, text: &str) {
+    let file = cluster(alloc, text).expect(rt, "cluster");
     let Ok(goals) = GoalList::read(alloc, &[], true) else {
         panic!(rt; "no goals");
     };
     let (case, start) = (&file.case, &file.lists);
     expect_same_on(rt, alloc, case, start, &goals);
-    match optimise(alloc, case, start, &goals) {
+    match optimise(rt, alloc, case, start, &goals) {
         Ok(plan) => {
             expect_same_on(rt, alloc, case, plan.end(), &goals);
             expect_good(rt, alloc, case, start, &goals, plan.trace());

@@ -1,19 +1,21 @@
 // Summaries of small clusters, as whole texts.
+ghost use Rattle.plan_terms.specs.Resources.{NW_OUT};
 ghost use Rattle.std.specs.Prelude.{◌≡◌, IfOk, length, slice_index};
 
 use goal_optimizer::{PlanFault, optimise};
 use goal_set::GoalList;
-use load_model::{
-    Assign, Broker, BrokerState, Case, GoalName, Loads, Options, Part, RackName, Ratio, Topic,
-};
+use load_model::{Assign, Case};
 use plan_summary::{failure_summary, plan_summary};
-use plan_terms::MinLeadersList;
+use plan_terms::{
+    Broker, BrokerState, GoalName, Loads, MinLeadersList, Options, Part, RackName, Ratio, Topic,
+};
 use std::alloc::Global;
 use std::test::Fail;
+use std::thread::Threads;
 
 // A partition whose leader needs this much of a disk.
 fn part(alloc: Global, disk: u64) -> Result<Part, Fail>
-    ensures { IfOk result (λ p. slice_index p.loads.follow 2 ≡ 0) }
+    ensures { IfOk result (λ p. slice_index p.loads.follow NW_OUT ≡ 0) }
 {
     Ok(Part {
         topic: Topic::new(String::from_str(alloc, "t")?),
@@ -66,12 +68,18 @@ fn goals(alloc: Global, name: &str) -> Result<GoalList, Fail> {
 }
 
 // The summary for a partition on these brokers.
-fn summary(alloc: Global, case: &Case, list: &[u32], name: &str) -> Result<Vec<u8>, Fail>
+fn summary<R: Threads + Sync>(
+    rt: &R,
+    alloc: Global,
+    case: &Case,
+    list: &[u32],
+    name: &str,
+) -> Result<Vec<u8>, Fail>
     requires { length case.now.parts ≡ 1 }
 {
     let lists = vec![in alloc; list.to_vec(alloc)?]?;
     let lists = Assign::new(alloc, case, lists)?;
-    match optimise(alloc, case, &lists, &goals(alloc, name)?) {
+    match optimise(rt, alloc, case, &lists, &goals(alloc, name)?) {
         Ok(plan) => Ok(plan_summary(alloc, &plan)?),
         Err(PlanFault::Goal(failure)) => {
             let goal = failure.goal();
@@ -92,7 +100,7 @@ fn a_plan_is_summed_up(rt: HostRuntime) -> Result<(), Fail> {
         broker(alloc, 2, "b", alive)?,
     ]?;
     let case = case(alloc, brokers, 1)?;
-    let text = summary(alloc, &case, &[0, 1], "RackAwareGoal")?;
+    let text = summary(&rt, alloc, &case, &[0, 1], "RackAwareGoal")?;
     let want = "planned\nproposals 1\nEvacuationGoal 0 0\nRackAwareGoal 1 0\nDemotionGoal 0 0\n";
     assert_eq!(rt; text.as_slice(), want.as_bytes());
     Ok(())
@@ -105,7 +113,7 @@ fn a_failure_is_summed_up_after_its_actions(rt: HostRuntime) -> Result<(), Fail>
     let lost = broker(alloc, 0, "a", BrokerState::Dead)?;
     let brokers = vec![in alloc; lost, broker(alloc, 1, "a", BrokerState::Alive)?]?;
     let case = case(alloc, brokers, 90)?;
-    let text = summary(alloc, &case, &[0], "DiskCapacityGoal")?;
+    let text = summary(&rt, alloc, &case, &[0], "DiskCapacityGoal")?;
     let want = "failed DiskCapacityGoal\nproposals 0\nEvacuationGoal 1 0\nDiskCapacityGoal 0 50\n";
     assert_eq!(rt; text.as_slice(), want.as_bytes());
     Ok(())

@@ -8,17 +8,17 @@ fn refuses_what_is_no_trace(rt: HostRuntime) -> Result<(), Fail> {
     let texts = [
         b"".as_slice(),
         b"{}",
-        b"{\"result\":\"DONE\",\"turns\":[],\"version\":1}",
-        b"{\"result\":\"PLANNED\",\"turns\":{},\"version\":1}",
-        b"{\"result\":\"PLANNED\",\"turns\":[],\"version\":2}",
-        b"{\"result\":\"PLANNED\",\"turns\":[],\"version\":1.0}",
-        b"{\"result\":\"PLANNED\",\"turns\":[]}",
-        b"{\"result\":\"PLANNED\",\"turns\":[{\"actions\":[],\"goal\":\"NoGoal\"}],\"version\":1}",
-        b"{\"result\":\"PLANNED\",\"turns\":[{\"goal\":\"RackAwareGoal\"}],\"version\":1}",
-        b"{\"result\":\"PLANNED\",\"turns\":[{\"actions\":[[]],\"goal\":\"RackAwareGoal\"}],\"version\":1}",
-        b"{\"result\":\"PLANNED\",\"turns\":[{\"actions\":[[\"MOVE\",1,2]],\"goal\":\"RackAwareGoal\"}],\"version\":1}",
-        b"{\"result\":\"PLANNED\",\"turns\":[{\"actions\":[[\"LEAD\",1,4294967296]],\"goal\":\"RackAwareGoal\"}],\"version\":1}",
-        b"{\"result\":\"PLANNED\",\"turns\":[{\"actions\":[[\"LEAD\",1,1.0]],\"goal\":\"RackAwareGoal\"}],\"version\":1}",
+        br#"{"result":"DONE","turns":[],"version":1}"#,
+        br#"{"result":"PLANNED","turns":{},"version":1}"#,
+        br#"{"result":"PLANNED","turns":[],"version":2}"#,
+        br#"{"result":"PLANNED","turns":[],"version":1.0}"#,
+        br#"{"result":"PLANNED","turns":[]}"#,
+        br#"{"result":"PLANNED","turns":[{"actions":[],"goal":"NoGoal"}],"version":1}"#,
+        br#"{"result":"PLANNED","turns":[{"goal":"RackAwareGoal"}],"version":1}"#,
+        br#"{"result":"PLANNED","turns":[{"actions":[[]],"goal":"RackAwareGoal"}],"version":1}"#,
+        br#"{"result":"PLANNED","turns":[{"actions":[["MOVE",1,2]],"goal":"RackAwareGoal"}],"version":1}"#,
+        br#"{"result":"PLANNED","turns":[{"actions":[["LEAD",1,4294967296]],"goal":"RackAwareGoal"}],"version":1}"#,
+        br#"{"result":"PLANNED","turns":[{"actions":[["LEAD",1,1.0]],"goal":"RackAwareGoal"}],"version":1}"#,
         b"{\"result\":\"PLANNED\",\"turns\":[],\"version\":1,\"by\":\"\xff\"}",
     ];
     for (row, text) in texts.iter().enumerate() {
@@ -32,7 +32,7 @@ fn refuses_what_is_no_trace(rt: HostRuntime) -> Result<(), Fail> {
 fn writes_the_trace_that_it_read(rt: HostRuntime) -> Result<(), Fail> {
     let alloc = rt.alloc();
     let compact =
-        "{\"result\":\"FAILED\",\"turns\":[{\"actions\":[[\"MOVE\",4294967295,0,1],[\"LEAD\",2,3],[\"SWAP\",4,5,6,7]],\"goal\":\"RackAwareGoal\"}],\"version\":1}";
+        r#"{"result":"FAILED","turns":[{"actions":[["MOVE",4294967295,0,1],["LEAD",2,3],["SWAP",4,5,6,7]],"goal":"RackAwareGoal"}],"version":1}"#;
     let loose =
         "{ \"version\": 1, \"by\": [null], \"turns\": [{\"goal\": \"RackAwareGoal\", \"left\": 0.5,\n \"actions\": [[\"MOVE\", 4294967295, 0, 1], [\"LEAD\", 2, 3], [\"SWAP\", 4, 5, 6, 7]]}], \"result\": \"FAILED\" }";
     for text in [compact, loose] {

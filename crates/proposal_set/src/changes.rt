@@ -7,12 +7,6 @@ use load_model::Assign;
 use plan_terms::{Memory, Proposal, Replicas};
 use std::alloc::Global;
 
-fn replicas(alloc: Global, list: &[u32]) -> Result<Replicas, Memory>
-    ensures { IfOk result (λ r. r ≡ list.now) }
-{
-    Ok(Replicas::new(Vec::from_slice(alloc, list)?))
-}
-
 fn proposal_at(
     alloc: Global,
     before: &Assign,
@@ -26,8 +20,8 @@ fn proposal_at(
     let _few = before.len();
     Ok(Proposal {
         part: part as u32,
-        before: replicas(alloc, before.list(part))?,
-        after: replicas(alloc, after.list(part))?,
+        before: Replicas::of(alloc, before.list(part))?,
+        after: Replicas::of(alloc, after.list(part))?,
     })
 }
 

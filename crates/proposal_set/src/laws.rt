@@ -6,7 +6,9 @@ ghost use Rattle.proposal_set.specs.Examples.{one_part, one_proposal};
 
 /// What the texts of one proposal and of none are, byte for byte.
 pub fn texts_on_literals()
-    ensures one { reassignment_text (one_part ∷ []) (one_proposal ∷ []) ≡ codes "{\"partitions\":[{\"partition\":0,\"replicas\":[2,1],\"topic\":\"t\"}],\"version\":1}" }
+    ensures one { reassignment_text (one_part ∷ []) (one_proposal ∷ [])
+        ≡ codes
+        "{\"partitions\":[{\"partition\":0,\"replicas\":[2,1],\"topic\":\"t\"}],\"version\":1}" }
     ensures none { reassignment_text (one_part ∷ []) [] ≡ codes "{\"partitions\":[],\"version\":1}" }
 {}
 

@@ -3,8 +3,6 @@
 
 mod changes;
 mod laws;
-#[cfg(test)]
-mod tests;
 mod text;
 
 pub use changes::proposals;

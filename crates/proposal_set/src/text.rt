@@ -71,7 +71,9 @@ pub fn reassignment_text(
 ) -> Result<Vec<u8>, Memory>
     requires { All (λ p. p.part < length case.now.parts) proposals.now }
     ensures text { IfOk result (λ text. text.items ≡ reassignment_text case.now.parts proposals.now) }
-    ensures reads { IfOk result (λ text. read text.items ≡ Some (reassignment (proposal_entries case.now.parts proposals.now))) }
+    ensures reads { IfOk result
+        (λ text. read text.items
+        ≡ Some (reassignment (proposal_entries case.now.parts proposals.now))) }
 {
     let entries = proposal_values(alloc, case.parts(), proposals)?;
     let value = reassignment_value(alloc, entries)?;
@@ -82,7 +84,8 @@ pub fn reassignment_text(
 pub fn assignment_text(alloc: Global, case: &Case, lists: &[Replicas]) -> Result<Vec<u8>, Memory>
     requires { length lists.now ≡ length case.now.parts }
     ensures text { IfOk result (λ text. text.items ≡ assignment_text case.now.parts lists.now) }
-    ensures reads { IfOk result (λ text. read text.items ≡ Some (reassignment (list_entries case.now.parts lists.now))) }
+    ensures reads { IfOk result
+        (λ text. read text.items ≡ Some (reassignment (list_entries case.now.parts lists.now))) }
 {
     let entries = list_values(alloc, case.parts(), lists)?;
     let value = reassignment_value(alloc, entries)?;

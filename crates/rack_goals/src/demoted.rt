@@ -4,9 +4,8 @@ ghost use Rattle.plan_terms.specs.Cluster.{some_broker};
 ghost use Rattle.plan_terms.specs.States.{is_demoted};
 ghost use Rattle.std.specs.Prelude.{◌≡◌, ◌≤◌, false, length};
 
-use crate::partition::{ListRule, PartitionGoal};
-use load_model::{Case, Memory};
-use std::alloc::Global;
+use load_model::Case;
+use partition_goals::{ListRule, PartitionGoal};
 
 /// The rule that the first member of a list isn't a broker that is not to lead.
 #[derive(Clone, Copy)]
@@ -16,22 +15,6 @@ pub struct DemotionRule;
 /// demoted broker. It is what Cruise Control asks when it demotes brokers.
 pub type DemotionGoal = PartitionGoal<DemotionRule>;
 
-fn is_demoted(case: &Case, id: u32) -> bool
-    ensures { result ≡ some_broker (λ y. is_demoted y.state) case.now id }
-{
-    match case.broker(id) {
-        Some(broker) => broker.state.is_demoted(),
-        None => false,
-    }
-}
-
-impl DemotionGoal {
-    /// The goal for the case.
-    pub fn new(_alloc: Global, _case: &Case) -> Result<Self, Memory> {
-        Ok(PartitionGoal::of(DemotionRule))
-    }
-}
-
 impl ListRule for DemotionRule {
     ghost use Rattle.goal_terms.proofs.PartitionGoals.{demoted_first-le};
 
@@ -39,7 +22,9 @@ impl ListRule for DemotionRule {
 
     ghost hard = { λ _. false };
 
-    ghost made_for = { λ _ _. Unit {0} };
+    fn new() -> Self {
+        DemotionRule
+    }
 
     fn is_hard(&self) -> bool {
         false
@@ -48,7 +33,7 @@ impl ListRule for DemotionRule {
     fn excess_of(&self, case: &Case, list: &[u32]) -> usize {
         match list {
             [] => 0,
-            [first, ..] => usize::from(is_demoted(case, *first)),
+            [first, ..] => usize::from(case.is_demoted(*first)),
         }
     }
 

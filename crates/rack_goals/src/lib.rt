@@ -8,13 +8,11 @@ ghost use Rattle.std.specs.Prelude.{◌≡◌};
 
 mod demoted;
 mod lost;
-mod partition;
 mod rack;
 
 pub use demoted::{DemotionGoal, DemotionRule};
 pub use lost::{EvacuationGoal, EvacuationRule};
 use move_actions::Goal;
-pub use partition::{ListRule, PartitionGoal};
 pub use rack::{RackAwareGoal, RackRule};
 
 /// What the goals mean for a cluster.

@@ -4,10 +4,8 @@ ghost use Rattle.plan_terms.specs.Legal.{is_lost};
 ghost use Rattle.std.specs.List.{count_by};
 ghost use Rattle.std.specs.Prelude.{◌≡◌, ◌≤◌, true, length};
 
-use crate::partition::{ListRule, PartitionGoal};
-use load_model::{Case, Memory};
-use move_actions::is_lost;
-use std::alloc::Global;
+use load_model::Case;
+use partition_goals::{ListRule, PartitionGoal};
 
 /// The rule that no member of a list stands on a lost broker.
 #[derive(Clone, Copy)]
@@ -17,13 +15,6 @@ pub struct EvacuationRule;
 /// It is what Cruise Control asks when it removes or heals brokers.
 pub type EvacuationGoal = PartitionGoal<EvacuationRule>;
 
-impl EvacuationGoal {
-    /// The goal for the case.
-    pub fn new(_alloc: Global, _case: &Case) -> Result<Self, Memory> {
-        Ok(PartitionGoal::of(EvacuationRule))
-    }
-}
-
 impl ListRule for EvacuationRule {
     ghost use Rattle.goal_terms.proofs.PartitionGoals.{lost_members-le};
 
@@ -31,14 +22,16 @@ impl ListRule for EvacuationRule {
 
     ghost hard = { λ _. true };
 
-    ghost made_for = { λ _ _. Unit {0} };
+    fn new() -> Self {
+        EvacuationRule
+    }
 
     fn is_hard(&self) -> bool {
         true
     }
 
     fn excess_of(&self, case: &Case, list: &[u32]) -> usize {
-        list.iter().filter(|member| is_lost(case, **member)).count()
+        list.iter().filter(|member| case.is_lost(**member)).count()
     }
 
     ghost within = { λ _ c list. lost_members-le c list };

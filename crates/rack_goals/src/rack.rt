@@ -4,9 +4,9 @@ ghost use Rattle.std.specs.List.{list_any};
 ghost use Rattle.plan_terms.specs.Cluster.{Cluster};
 ghost use Rattle.plan_terms.specs.Racks.{rack_of, same_rack, rack_count, rack_excess, equal_racks};
 
-use crate::partition::{ListRule, PartitionGoal};
-use load_model::{Case, Memory, RackName};
-use std::alloc::Global;
+use load_model::Case;
+use partition_goals::{ListRule, PartitionGoal};
+use plan_terms::RackName;
 
 /// The rule that the members of a list stand on distinct racks. A broker without a rack is a rack of its own.
 #[derive(Clone, Copy)]
@@ -26,7 +26,8 @@ fn rack_at(case: &Case, id: u32) -> Option<&RackName>
 }
 
 fn are_equal(one: Option<&RackName>, other: Option<&RackName>) -> bool
-    ensures { result ≡ equal_racks (option_map (λ r. r.now) one.entry) (option_map (λ r. r.now) other.entry) }
+    ensures { result
+        ≡ equal_racks (option_map (λ r. r.now) one.entry) (option_map (λ r. r.now) other.entry) }
 {
     match one {
         None => false,
@@ -71,13 +72,6 @@ fn count_racks(case: &Case, list: &[u32]) -> usize
     racks
 }
 
-impl RackAwareGoal {
-    /// The goal for the case.
-    pub fn new(_alloc: Global, _case: &Case) -> Result<Self, Memory> {
-        Ok(PartitionGoal::of(RackRule))
-    }
-}
-
 impl ListRule for RackRule {
     ghost use Rattle.plan_terms.proofs.RackLemmas.{rack_excess-le};
 
@@ -85,7 +79,9 @@ impl ListRule for RackRule {
 
     ghost hard = { λ _. true };
 
-    ghost made_for = { λ _ _. Unit {0} };
+    fn new() -> Self {
+        RackRule
+    }
 
     fn is_hard(&self) -> bool {
         true

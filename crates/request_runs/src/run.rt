@@ -15,10 +15,10 @@ use cluster_json::ClusterFile;
 use control_core::Book;
 use core_terms::{Broken, Event, Named, Outcome, Reply};
 use goal_set::GoalKind;
-use load_model::Memory;
 use mover_rounds::{DrainEnd, drain};
-use plan_terms::Ratio;
+use plan_terms::{Memory, Ratio};
 use std::alloc::Global;
+use std::thread::Threads;
 use user_tasks::{Ask, Status};
 use uuid::Uuid;
 
@@ -64,14 +64,22 @@ fn begin(
 }
 
 // Makes rounds until nothing is unfinished. No call of the admin or of the copier fails.
-fn carry_out(alloc: Global, book: &mut Book<MemoryCluster>) -> Result<(), Memory>
+fn carry_out<R: Threads + Sync>(
+    rt: &R,
+    alloc: Global,
+    book: &mut Book<MemoryCluster>,
+) -> Result<(), Memory>
     requires { IsQuiet (state_of book.old).desk }
     ensures file { book.new.file ≡ book.old.file }
     ensures done { OnOk result (IsDone (state_of book.new).desk) }
-    ensures rounds { OnOk result ((made : Option (List ChunkCopy)) × HasDrainedAlone (known_by_owner book.old) (known_by_owner book.new) (record { made = Some []; faults = 0 }) (record { made = made; faults = 0 }) DrainEnd.Drained) }
+    ensures rounds { OnOk result
+        ((made : Option (List ChunkCopy))
+        × HasDrainedAlone (known_by_owner book.old) (known_by_owner book.new)
+        (record { made = Some []; faults = 0 }) (record { made = made; faults = 0 })
+        DrainEnd.Drained) }
 {
     let mut copier = MemoryCopier::new(alloc);
-    let end = drain(alloc, book, &mut copier);
+    let end = drain(rt, alloc, book, &mut copier);
     let _few = book.failures();
     match end {
         DrainEnd::Drained => Ok(()),
@@ -82,8 +90,11 @@ fn carry_out(alloc: Global, book: &mut Book<MemoryCluster>) -> Result<(), Memory
 
 // The goal that failed a user task which has ended, if one did; no answer for another reply.
 fn broken_of(reply: Reply) -> Option<Option<Broken>>
-    ensures done { (id : List ℕ) (st : Status) (changes : List Named) → reply ≡ Reply.Task id st (Outcome.Done changes) → result ≡ Some None }
-    ensures failed { (id : List ℕ) (st : Status) (goal : GoalKind) (left : ℕ) → reply ≡ Reply.Task id st (Outcome.Failed goal left) → result ≡ Some (Some (record { goal = goal; left = left })) }
+    ensures done { (id : List ℕ) (st : Status) (changes : List Named)
+        → reply ≡ Reply.Task id st (Outcome.Done changes) → result ≡ Some None }
+    ensures failed { (id : List ℕ) (st : Status) (goal : GoalKind) (left : ℕ)
+        → reply ≡ Reply.Task id st (Outcome.Failed goal left)
+        → result ≡ Some (Some (record { goal = goal; left = left })) }
 {
     match reply {
         Reply::Task(_, _, Outcome::Done(_)) => Some(None),
@@ -98,17 +109,24 @@ fn broken_of(reply: Reply) -> Option<Option<Broken>>
 /// # Errors
 ///
 /// Out of memory.
-pub fn run_request(alloc: Global, file: ClusterFile, ask: Ask) -> Result<RequestRun, Memory>
+pub fn run_request<R: Threads + Sync>(
+    rt: &R,
+    alloc: Global,
+    file: ClusterFile,
+    ask: Ask,
+) -> Result<RequestRun, Memory>
     requires file { IsFile file }
     requires carried { is_dry ask ≡ false }
     requires brokers { ask.brokers ≡ [] }
     requires goals { goals_fault ask ≡ None }
     ensures run { IfOk result (λ r. IsRun (without_share (file_seen file)) ask r.book) }
-    ensures came { IfOk result (λ r. CameOf (cluster_asked ask (file_seen file)) file.lists (goals_of ask) r.broken (state_of r.book).desk.exec) }
+    ensures came { IfOk result
+        (λ r. CameOf (cluster_asked ask (file_seen file)) file.lists (goals_of ask) r.broken
+        (state_of r.book).desk.exec) }
 {
     let question = ask.copy(alloc)?;
     let (mut book, id) = begin(alloc, file, ask)?;
-    carry_out(alloc, &mut book)?;
+    carry_out(rt, alloc, &mut book)?;
     let reply = match book.step(Event::Submit(question, Some(id))) {
         Ok(reply) => reply,
         Err(_) => return Err(Memory),

@@ -5,7 +5,8 @@ use Rattle.cluster_json.specs.Faults.{Fault}
 use Rattle.cluster_json.specs.Named.{named_of}
 use Rattle.cluster_json.specs.declared.named.NamedSample.{NamedSample}
 use Rattle.rest_parse.specs.Parameters.{IsCap, bad_name, broker_cap, cap_of, cluster_cap, id_list_of, id_of, leader_cap, steps_of, truth_of}
-use Rattle.rest_parse.specs.Query.{Pair, has_name, names_in, pairs_of, path_in, query_in, value_at}
+use Rattle.plan_terms.specs.Commas.{names_in}
+use Rattle.rest_parse.specs.Query.{Pair, has_name, pairs_of, path_in, query_in, value_at}
 use Rattle.rest_parse.specs.Routes.{endpoint_at, is_read}
 use Rattle.rest_parse.specs.declared.calls.Call.{Call}
 use Rattle.rest_parse.specs.declared.calls.Call.TheVariants as call

@@ -2,7 +2,8 @@
 use Rattle.std.specs.Prelude.{ℕ, ◌≤◌, ◌^◌, Bool, true, false, not, ◌&&◌, ◌||◌, nat_le, nat_lt, List, [], ◌∷◌, ◌++◌, length, bytes_eq, if◌then◌else◌, is_some, Option, Some, None, codes}
 use Rattle.plan_terms.specs.Digits.{whole_of}
 use Rattle.rest_stream.specs.Fields.{same_name}
-use Rattle.rest_parse.specs.Query.{Pair, has_name, pieces}
+use Rattle.plan_terms.specs.Commas.{pieces}
+use Rattle.rest_parse.specs.Query.{Pair, has_name}
 use Rattle.rest_parse.specs.declared.parameters.Parameter.{Parameter}
 use Rattle.rest_parse.specs.declared.parameters.Parameter.TheVariants as parameter
 use Rattle.rest_parse.specs.declared.routes.Endpoint.{Endpoint}

@@ -6,17 +6,17 @@ ghost use Rattle.rest_parse.specs.Query.{value_at};
 ghost use Rattle.uuid.specs.Text.{parsed};
 
 use crate::faulty::bad_name;
-use crate::lists::{goal_names, id_list, topic_names};
+use crate::lists::id_list;
 use crate::parameters::{cap_of, id_of, steps_of, truth_of};
 use crate::query::{Pair, has_name, read_pairs, split_target, value_of};
 use crate::routes::{Endpoint, Routes};
 use cluster_json::{FileRefusal, NamedSample, read_named_sample};
-use plan_terms::{GoalName, Measured, Memory, Topic};
+use plan_terms::{ListOf, Measured, Memory, Name, Topic, names};
 use rest_stream::{Bytes, RawRequest};
 use std::alloc::{AllocError, Global};
 use std::marker::Model;
 use thiserror::Error;
-use user_tasks::{Ask, ListOf, Op, Query};
+use user_tasks::{Ask, Op, Query};
 use uuid::Uuid;
 
 const BROKER_CAP: &str = "concurrent_partition_movements_per_broker";
@@ -124,22 +124,12 @@ fn flag_in(pairs: &[Pair], name: &str, default: bool) -> bool
     }
 }
 
-// The names of goals, where they are asked for.
-fn goals_in(alloc: Global, pairs: &[Pair]) -> Result<ListOf<GoalName>, AllocError>
-    ensures { IfOk result (λ l. l ≡ names_at (codes "goals") pairs.now) }
+// The names in a parameter, none where it isn't given.
+fn names_at<K>(alloc: Global, pairs: &[Pair], name: &str) -> Result<ListOf<Name<K>>, AllocError>
+    ensures { IfOk result (λ l. l ≡ names_at name.now pairs.now) }
 {
-    match value_of(pairs, "goals") {
-        Some(value) => Ok(ListOf::new(goal_names(alloc, value)?)),
-        None => Ok(ListOf::new(Vec::new(alloc))),
-    }
-}
-
-// The names of topics, where they are excluded.
-fn excluded_in(alloc: Global, pairs: &[Pair]) -> Result<ListOf<Topic>, AllocError>
-    ensures { IfOk result (λ l. l ≡ names_at (codes "excluded_topics") pairs.now) }
-{
-    match value_of(pairs, "excluded_topics") {
-        Some(value) => Ok(ListOf::new(topic_names(alloc, value)?)),
+    match value_of(pairs, name) {
+        Some(value) => Ok(ListOf::new(names(alloc, value)?)),
         None => Ok(ListOf::new(Vec::new(alloc))),
     }
 }
@@ -164,9 +154,9 @@ fn ask_of(alloc: Global, op: Op, pairs: &[Pair]) -> Result<Ask, AllocError>
     Ok(Ask {
         op,
         brokers: ids_in(alloc, pairs)?,
-        goals: goals_in(alloc, pairs)?,
+        goals: names_at(alloc, pairs, "goals")?,
         skip: flag_in(pairs, "skip_hard_goal_check", false),
-        excluded: excluded_in(alloc, pairs)?,
+        excluded: names_at(alloc, pairs, "excluded_topics")?,
         dryrun: flag_in(pairs, "dryrun", true),
     })
 }
@@ -275,7 +265,8 @@ fn sample_call(alloc: Global, body: &[u8]) -> Result<Call, HttpFault>
 
 // How many steps.
 fn steps_in(pairs: &[Pair]) -> u32
-    ensures value { result ≡ unwrap_or (option_and_then steps_of (value_at (codes "steps") pairs.now)) 1 }
+    ensures value { result
+        ≡ unwrap_or (option_and_then steps_of (value_at (codes "steps") pairs.now)) 1 }
     ensures least { 1 ≤ result }
     ensures most { result ≤ 100000 }
 {
@@ -297,7 +288,9 @@ fn broker_in(pairs: &[Pair]) -> u32
 
 // Other caps of movements.
 fn caps_call(pairs: &[Pair]) -> Call
-    ensures is { result ≡ Call.Caps (cap_at broker_cap pairs.now) (cap_at cluster_cap pairs.now) (cap_at leader_cap pairs.now) }
+    ensures is { result
+        ≡ Call.Caps (cap_at broker_cap pairs.now) (cap_at cluster_cap pairs.now)
+        (cap_at leader_cap pairs.now) }
     ensures range { IsInRange result }
 {
     Call::Caps(

@@ -12,6 +12,3 @@ mod routes;
 pub use calls::{Call, HttpFault, ParameterName, request_of};
 pub use rest_stream::{Bytes, Next, RawRequest, Reader, Stop, Whole, read_whole};
 pub use routes::{Endpoint, Routes};
-
-#[cfg(test)]
-mod tests;

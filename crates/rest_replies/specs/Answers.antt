@@ -1,5 +1,6 @@
 -- The reply to what is told: its code, the user task that it carries, and its body; and its bytes.
 use Rattle.std.specs.Prelude.{◌≡◌, ℕ, List, [], ◌++◌, length, Option, Some, None, option_map, codes}
+use Rattle.std.specs.Option.{option_or}
 use Rattle.serde_json.specs.Data.{Data}
 use Rattle.serde_json.specs.Read.{read}
 use Rattle.serde_json.specs.View.{view}
@@ -66,14 +67,9 @@ core_result (reply.CapsSet caps) = Some (ok_answer (caps_data caps))
 core_result (reply.Shown s) = Some (ok_answer (shown_data s))
 core_result r = None
 
--- the first, where it is there, else the second
-abbrev pub or_else : Option AnswerView → Option AnswerView → Option AnswerView
-or_else None other = other
-or_else (Some a) other = Some a
-
 -- of the core's answer to an event. What no client is told has none: what planners and movers are answered, and that of Close.
 abbrev pub core_answer : Reply → Option AnswerView
-core_answer r = or_else (core_result r) (option_map refused (core_refusal r))
+core_answer r = option_or (core_result r) (option_map refused (core_refusal r))
 
 -- of the end of a pump
 abbrev pub pump_answer : PumpEnd → Option AnswerView

@@ -9,6 +9,7 @@ use Rattle.user_tasks.specs.declared.table.Status.{Status}
 use Rattle.user_tasks.specs.declared.table.Status.TheVariants as status
 use Rattle.core_terms.specs.declared.shows.ExecutorState.{ExecutorState}
 use Rattle.core_terms.specs.declared.shows.ExecutorState.TheVariants as executor
+use Rattle.plan_terms.specs.Bytes.{line_feed, carriage_return}
 use Rattle.rest_replies.specs.declared.texts.Code.{Code}
 use Rattle.rest_replies.specs.declared.texts.Code.TheVariants as code
 
@@ -58,7 +59,7 @@ executor_state_text executor.MovingLeaders = codes "LEADER_MOVEMENT_TASK_IN_PROG
 
 -- the end of a line of a head
 abbrev pub line_end : List ℕ
-line_end = 13 ∷ 10 ∷ []
+line_end = carriage_return ∷ line_feed ∷ []
 
 -- the line of a user task, where the reply carries one
 abbrev pub task_line : Option (List ℕ) → List ℕ

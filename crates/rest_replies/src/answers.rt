@@ -86,7 +86,8 @@ fn shown_answer(alloc: Global, shown: &Shown) -> Result<Answer, Memory>
 
 // The reply of a refusal.
 fn refused(alloc: Global, refusal: Option<Refusal>) -> Result<Option<Answer>, Memory>
-    ensures { IfOk result (λ o. option_map answer_seen o ≡ option_map refused (option_map refusal_seen refusal)) }
+    ensures { IfOk result
+        (λ o. option_map answer_seen o ≡ option_map refused (option_map refusal_seen refusal)) }
 {
     match refusal {
         Some(refusal) => {

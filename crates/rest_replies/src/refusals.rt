@@ -6,7 +6,8 @@ use crate::texts::Code;
 use core_terms::{Reply, StepFault};
 use goal_set::GoalFault;
 use plan_terms::Memory;
-use rest_parse::{HttpFault, Stop};
+use rest_parse::HttpFault;
+use rest_stream::Stop;
 use std::alloc::Global;
 use user_tasks::id_text;
 use uuid::Uuid;
@@ -124,7 +125,8 @@ pub fn step_refusal(alloc: Global, fault: StepFault) -> Result<Option<Refusal>, 
 
 // Too few partitions have loads.
 fn windows_refusal(alloc: Global, valid: u32, all: u32) -> Result<Option<Refusal>, Memory>
-    ensures { IfOk result (λ o. option_map refusal_seen o ≡ core_refusal (Reply.NotEnoughWindows valid all)) }
+    ensures { IfOk result
+        (λ o. option_map refusal_seen o ≡ core_refusal (Reply.NotEnoughWindows valid all)) }
 {
     let text = format!(in alloc; "valid partitions: {valid} of {all}")?;
     Ok(Some(Refusal {

@@ -1,6 +1,7 @@
 // What is told to a client.
 use core_terms::{PumpEnd, Reply, StepFault};
-use rest_parse::{HttpFault, Stop};
+use rest_parse::HttpFault;
+use rest_stream::Stop;
 
 /// What is told to a client.
 #[derive(Drop)]

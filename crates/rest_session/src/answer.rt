@@ -12,16 +12,19 @@ use cc_base::{Link, WriteFault, write_link};
 use cluster_gate::Copier;
 use core_terms::Event;
 use mover_rounds::{Asker, pump};
-use rest_parse::{Call, RawRequest, Routes};
+use rest_parse::{Call, Routes};
 use rest_replies::{MEMORY_REPLY, Told, memory_reply_is_a_reply, reply_bytes};
+use rest_stream::RawRequest;
 use std::alloc::Global;
+use std::thread::Threads;
 
 // Asks one event that calls nothing outside, so that only want of memory may stand in its way.
 fn ask_once<X: Asker>(asker: &mut X, event: Event) -> Told
     requires { is_outward event ≡ false }
     ensures since { X.since asker.old asker.new }
     ensures asked { IsAskedOnce (X.known asker.old) (X.known asker.new) event result }
-    ensures blamed { IsBlamed (fault_told result) (X.known asker.old).blamed (X.known asker.new).blamed }
+    ensures blamed { IsBlamed (fault_told result) (X.known asker.old).blamed
+        (X.known asker.new).blamed }
 {
     match asker.ask(event) {
         Ok(reply) => Told::Core(reply),
@@ -30,20 +33,30 @@ fn ask_once<X: Asker>(asker: &mut X, event: Event) -> Told
 }
 
 // Does what a call asks.
-fn do_call<X: Asker, K: Copier>(alloc: Global, asker: &mut X, copier: &mut K, call: Call) -> Told
+fn do_call<X: Asker, K: Copier, R: Threads + Sync>(
+    rt: &R,
+    alloc: Global,
+    asker: &mut X,
+    copier: &mut K,
+    call: Call,
+) -> Told
     requires { IsInRange call }
     ensures since { X.since asker.old asker.new }
-    ensures done { HasDone (X.known asker.old) (X.known asker.new) (copier_of K.copies K.faults copier.old) (copier_of K.copies K.faults copier.new) (asked_by call) result }
-    ensures blamed { IsBlamed (fault_told result) (X.known asker.old).blamed (X.known asker.new).blamed }
+    ensures done { HasDone (X.known asker.old) (X.known asker.new)
+        (copier_of K.copies K.faults copier.old) (copier_of K.copies K.faults copier.new)
+        (asked_by call) result }
+    ensures blamed { IsBlamed (fault_told result) (X.known asker.old).blamed
+        (X.known asker.new).blamed }
 {
     match asked_by(call) {
         Asked::Once(event) => ask_once(asker, event),
-        Asked::Rounds(steps) => Told::Pump(pump(alloc, asker, copier, steps)),
+        Asked::Rounds(steps) => Told::Pump(pump(rt, alloc, asker, copier, steps)),
     }
 }
 
 // Does what a request means, if it means a call, and says what it is told.
-fn told_by<X: Asker, K: Copier>(
+fn told_by<X: Asker, K: Copier, R: Threads + Sync>(
+    rt: &R,
     alloc: Global,
     asker: &mut X,
     copier: &mut K,
@@ -51,11 +64,14 @@ fn told_by<X: Asker, K: Copier>(
     raw: &RawRequest,
 ) -> Told
     ensures since { X.since asker.old asker.new }
-    ensures called { HasCalled (X.known asker.old) (X.known asker.new) (copier_of K.copies K.faults copier.old) (copier_of K.copies K.faults copier.new) (meaning raw.now) result }
-    ensures blamed { IsBlamed (fault_told result) (X.known asker.old).blamed (X.known asker.new).blamed }
+    ensures called { HasCalled (X.known asker.old) (X.known asker.new)
+        (copier_of K.copies K.faults copier.old) (copier_of K.copies K.faults copier.new)
+        (meaning raw.now) result }
+    ensures blamed { IsBlamed (fault_told result) (X.known asker.old).blamed
+        (X.known asker.new).blamed }
 {
     match routes.request_of(alloc, raw) {
-        Ok(call) => do_call(alloc, asker, copier, call),
+        Ok(call) => do_call(rt, alloc, asker, copier, call),
         Err(fault) => Told::Http(fault),
     }
 }
@@ -75,7 +91,8 @@ pub fn write_reply<L: Link>(alloc: Global, link: &mut L, told: &Told) -> Result<
 }
 
 /// Answers one request.
-pub fn answer<X: Asker, K: Copier, L: Link>(
+pub fn answer<X: Asker, K: Copier, L: Link, R: Threads + Sync>(
+    rt: &R,
     alloc: Global,
     asker: &mut X,
     copier: &mut K,
@@ -84,11 +101,13 @@ pub fn answer<X: Asker, K: Copier, L: Link>(
     link: &mut L,
 ) -> Result<(), WriteFault>
     ensures since { X.since asker.old asker.new }
-    ensures answered { HasAnswered (X.known asker.old) (X.known asker.new) (copier_of K.copies K.faults copier.old) (copier_of K.copies K.faults copier.new) raw.now (L.written link.old) (L.written link.new) result }
+    ensures answered { HasAnswered (X.known asker.old) (X.known asker.new)
+        (copier_of K.copies K.faults copier.old) (copier_of K.copies K.faults copier.new) raw.now
+        (L.written link.old) (L.written link.new) result }
     ensures cause { HasCause (L.Sink.faults link.old) (L.Sink.faults link.new) result }
     ensures left { L.left link.new ≡ L.left link.old }
     ensures faults { L.Source.faults link.new ≡ L.Source.faults link.old }
 {
-    let told = told_by(alloc, asker, copier, routes, raw);
+    let told = told_by(rt, alloc, asker, copier, routes, raw);
     write_reply(alloc, link, &told)
 }

@@ -8,9 +8,11 @@ use crate::answer::{answer, write_reply};
 use cc_base::Link;
 use cluster_gate::Copier;
 use mover_rounds::Asker;
-use rest_parse::{Reader, Routes, Stop};
+use rest_parse::Routes;
 use rest_replies::Told;
+use rest_stream::{Reader, Stop};
 use std::alloc::Global;
+use std::thread::Threads;
 
 /// How a link ended.
 #[derive(Clone, Copy, Debug, PartialEq, Eq)]
@@ -49,7 +51,8 @@ fn end_of(why: Stop) -> LinkEnd
 fn refuse<L: Link>(alloc: Global, link: &mut L, why: Stop) -> LinkEnd
     ensures refused { IsRefused (L.written link.old) (L.written link.new) why result }
     ensures later { L.Sink.faults link.old ≤ L.Sink.faults link.new }
-    ensures cause { result ≡ LinkEnd.WriteFault → HasRisen (L.Sink.faults link.old) (L.Sink.faults link.new) }
+    ensures cause { result ≡ LinkEnd.WriteFault
+        → HasRisen (L.Sink.faults link.old) (L.Sink.faults link.new) }
     ensures left { L.left link.new ≡ L.left link.old }
     ensures faults { L.Source.faults link.new ≡ L.Source.faults link.old }
 {
@@ -63,7 +66,8 @@ fn refuse<L: Link>(alloc: Global, link: &mut L, why: Stop) -> LinkEnd
 }
 
 // Answers requests until the link ends.
-fn serve_with<X: Asker, K: Copier, L: Link>(
+fn serve_with<X: Asker, K: Copier, L: Link, R: Threads + Sync>(
+    rt: &R,
     alloc: Global,
     asker: &mut X,
     copier: &mut K,
@@ -73,16 +77,20 @@ fn serve_with<X: Asker, K: Copier, L: Link>(
 ) -> LinkEnd
     requires { reader ≡ record { held = []; given = 0; ended = None } }
     ensures since { X.since asker.old asker.new }
-    ensures served { HasServed (X.known asker.old) (X.known asker.new) (copier_of K.copies K.faults copier.old) (copier_of K.copies K.faults copier.new) (L.left link.old) (L.written link.old) (L.written link.new) result }
+    ensures served { HasServed (X.known asker.old) (X.known asker.new)
+        (copier_of K.copies K.faults copier.old) (copier_of K.copies K.faults copier.new)
+        (L.left link.old) (L.written link.old) (L.written link.new) result }
     ensures source { L.Source.faults link.old ≤ L.Source.faults link.new }
     ensures sink { L.Sink.faults link.old ≤ L.Sink.faults link.new }
-    ensures read_fault { result ≡ LinkEnd.ReadFault → HasRisen (L.Source.faults link.old) (L.Source.faults link.new) }
-    ensures write_fault { result ≡ LinkEnd.WriteFault → HasRisen (L.Sink.faults link.old) (L.Sink.faults link.new) }
+    ensures read_fault { result ≡ LinkEnd.ReadFault
+        → HasRisen (L.Source.faults link.old) (L.Source.faults link.new) }
+    ensures write_fault { result ≡ LinkEnd.WriteFault
+        → HasRisen (L.Sink.faults link.old) (L.Sink.faults link.new) }
 {
     loop {
         match reader.next(alloc, link).into_result() {
             Ok(raw) => {
-                if answer(alloc, asker, copier, routes, &raw, link).is_err() {
+                if answer(rt, alloc, asker, copier, routes, &raw, link).is_err() {
                     return LinkEnd::WriteFault;
                 }
                 if raw.closes {
@@ -95,18 +103,23 @@ fn serve_with<X: Asker, K: Copier, L: Link>(
 }
 
 /// Answers the requests of a link in their order, each by the reply to its own entries, until the link ends.
-pub fn serve<X: Asker, K: Copier, L: Link>(
+pub fn serve<X: Asker, K: Copier, L: Link, R: Threads + Sync>(
+    rt: &R,
     alloc: Global,
     asker: &mut X,
     copier: &mut K,
     link: &mut L,
 ) -> LinkEnd
     ensures since { X.since asker.old asker.new }
-    ensures served { HasServed (X.known asker.old) (X.known asker.new) (copier_of K.copies K.faults copier.old) (copier_of K.copies K.faults copier.new) (L.left link.old) (L.written link.old) (L.written link.new) result }
+    ensures served { HasServed (X.known asker.old) (X.known asker.new)
+        (copier_of K.copies K.faults copier.old) (copier_of K.copies K.faults copier.new)
+        (L.left link.old) (L.written link.old) (L.written link.new) result }
     ensures source { L.Source.faults link.old ≤ L.Source.faults link.new }
     ensures sink { L.Sink.faults link.old ≤ L.Sink.faults link.new }
-    ensures read_fault { result ≡ LinkEnd.ReadFault → HasRisen (L.Source.faults link.old) (L.Source.faults link.new) }
-    ensures write_fault { result ≡ LinkEnd.WriteFault → HasRisen (L.Sink.faults link.old) (L.Sink.faults link.new) }
+    ensures read_fault { result ≡ LinkEnd.ReadFault
+        → HasRisen (L.Source.faults link.old) (L.Source.faults link.new) }
+    ensures write_fault { result ≡ LinkEnd.WriteFault
+        → HasRisen (L.Sink.faults link.old) (L.Sink.faults link.new) }
 {
     let Ok(routes) = Routes::new(alloc) else {
         return LinkEnd::Memory;
@@ -114,5 +127,5 @@ pub fn serve<X: Asker, K: Copier, L: Link>(
     let Ok(reader) = Reader::new(alloc) else {
         return LinkEnd::Memory;
     };
-    serve_with(alloc, asker, copier, &routes, reader, link)
+    serve_with(rt, alloc, asker, copier, &routes, reader, link)
 }

@@ -19,6 +19,7 @@ use core_laws::every_history;
 use core_terms::Event;
 use mover_rounds::{DrainEnd, drain};
 use std::alloc::Global;
+use std::thread::Threads;
 
 /// How a session ended.
 #[derive(Clone, Copy, Debug, PartialEq, Eq)]
@@ -44,14 +45,20 @@ fn close<A: Admin>(book: &mut Book<A>)
 }
 
 /// Makes rounds until no task and no job is unfinished. A book with a lease or a ticket out is left as it is, as one without memory.
-pub fn finish<A: Admin, K: Copier>(alloc: Global, book: &mut Book<A>, copier: &mut K) -> DrainEnd
+pub fn finish<A: Admin, K: Copier, R: Threads + Sync>(
+    rt: &R,
+    alloc: Global,
+    book: &mut Book<A>,
+    copier: &mut K,
+) -> DrainEnd
     ensures since { IsSince A.faults book.old book.new }
-    ensures rounds { HasDrainedAlone (known_by_owner book.old) (known_by_owner book.new) (copier_of K.copies K.faults copier.old) (copier_of K.copies K.faults copier.new) result }
+    ensures rounds { HasDrainedAlone (known_by_owner book.old) (known_by_owner book.new)
+        (copier_of K.copies K.faults copier.old) (copier_of K.copies K.faults copier.new) result }
     ensures drained { result ≡ DrainEnd.Drained → IsDone (state_of book.new).desk }
     ensures cause { IsDrainCause (known_by_owner book.old) (known_by_owner book.new) result }
 {
     if book.is_quiet() {
-        drain(alloc, book, copier)
+        drain(rt, alloc, book, copier)
     } else {
         DrainEnd::Memory
     }
@@ -59,7 +66,8 @@ pub fn finish<A: Admin, K: Copier>(alloc: Global, book: &mut Book<A>, copier: &m
 
 /// Answers the requests of a link over a book that was just opened, then asks Close, then makes rounds until no task and no job is
 /// unfinished.
-pub fn run_session<A: Admin, K: Copier, L: Link>(
+pub fn run_session<A: Admin, K: Copier, L: Link, R: Threads + Sync>(
+    rt: &R,
     alloc: Global,
     book: &mut Book<A>,
     copier: &mut K,
@@ -67,16 +75,20 @@ pub fn run_session<A: Admin, K: Copier, L: Link>(
 ) -> SessionEnd
     requires { book.old.journal ≡ [] }
     ensures since { IsSince A.faults book.old book.new }
-    ensures session { IsSession book.old book.new (copier_of K.copies K.faults copier.old) (copier_of K.copies K.faults copier.new) (L.left link.old) (L.written link.old) (L.written link.new) result }
+    ensures session { IsSession book.old book.new (copier_of K.copies K.faults copier.old)
+        (copier_of K.copies K.faults copier.new) (L.left link.old) (L.written link.old)
+        (L.written link.new) result }
     ensures drained { result.drain ≡ DrainEnd.Drained → IsDone (state_of book.new).desk }
     ensures fault { (number : ℕ) → result.drain ≡ DrainEnd.AdminFault number → 1 ≤ book.new.failures }
     ensures source { L.Source.faults link.old ≤ L.Source.faults link.new }
     ensures sink { L.Sink.faults link.old ≤ L.Sink.faults link.new }
-    ensures read_fault { result.link ≡ LinkEnd.ReadFault → HasRisen (L.Source.faults link.old) (L.Source.faults link.new) }
-    ensures write_fault { result.link ≡ LinkEnd.WriteFault → HasRisen (L.Sink.faults link.old) (L.Sink.faults link.new) }
+    ensures read_fault { result.link ≡ LinkEnd.ReadFault
+        → HasRisen (L.Source.faults link.old) (L.Source.faults link.new) }
+    ensures write_fault { result.link ≡ LinkEnd.WriteFault
+        → HasRisen (L.Sink.faults link.old) (L.Sink.faults link.new) }
 {
-    let ended = serve(alloc, book, copier, link);
+    let ended = serve(rt, alloc, book, copier, link);
     close(book);
-    let drain = finish(alloc, book, copier);
+    let drain = finish(rt, alloc, book, copier);
     SessionEnd { link: ended, drain }
 }

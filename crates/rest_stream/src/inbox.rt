@@ -33,8 +33,11 @@ impl Inbox {
 
 // Reads once, and adds what came. Answers how many bytes: 0 at the end of the input.
 pub fn fill<S: Source>(inbox: &mut Inbox, source: &mut S) -> Result<usize, Stop>
-    ensures stream { OnOk result (stream_of inbox.new.held.items (S.left source.new) ≡ stream_of inbox.old.held.items (S.left source.old)) }
-    ensures longer { IfOk result (λ n. length inbox.new.held.items ≡ length inbox.old.held.items + n) }
+    ensures stream { OnOk result
+        (stream_of inbox.new.held.items (S.left source.new)
+        ≡ stream_of inbox.old.held.items (S.left source.old)) }
+    ensures longer { IfOk result
+        (λ n. length inbox.new.held.items ≡ length inbox.old.held.items + n) }
     ensures same { result ≡ Ok 0 → inbox.new.held.items ≡ inbox.old.held.items }
     ensures end { result ≡ Ok 0 → IfSome (S.left source.old) (λ told. told ≡ []) }
     ensures cause { HasReadCause (S.faults source.old) (S.faults source.new) result }

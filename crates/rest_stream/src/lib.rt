@@ -17,6 +17,3 @@ pub use laws::{reasons_are_unique, requests_are_unique};
 pub use raw::{Next, RawRequest, Stop};
 pub use reader::Reader;
 pub use whole::{Whole, read_whole};
-
-#[cfg(test)]
-mod tests;

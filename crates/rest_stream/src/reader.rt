@@ -61,13 +61,23 @@ impl Reader {
     /// The next request, or why there is none. What follows that answer is the same answer, and reads nothing.
     pub fn next<S: Source>(&mut self, alloc: Global, source: &mut S) -> Next
         // an open reader: the stream begins with the request, or that is why it has none
-        ensures request { IsNone self.old.ended → IfRequest result (λ raw. IfSome (stream_of self.old.held (S.left source.old)) (λ stream.
-            IfSome (stream_of self.new.held (S.left source.new)) (IsRequest (is_last self.old.given) stream raw))) }
-        ensures told { IsNone self.old.ended → IsNone (stop_of result) → IsSome (stream_of self.old.held (S.left source.old)) → IsSome (stream_of self.new.held (S.left source.new)) }
-        ensures stopped { IsNone self.old.ended → IfSome (stop_of result) (λ why. IfSome (stream_of self.old.held (S.left source.old)) (λ stream. StopsBy stream why)) }
+        ensures request { IsNone self.old.ended
+            → IfRequest result
+            (λ raw. IfSome (stream_of self.old.held (S.left source.old))
+            (λ stream. IfSome (stream_of self.new.held (S.left source.new))
+            (IsRequest (is_last self.old.given) stream raw))) }
+        ensures told { IsNone self.old.ended → IsNone (stop_of result)
+            → IsSome (stream_of self.old.held (S.left source.old))
+            → IsSome (stream_of self.new.held (S.left source.new)) }
+        ensures stopped { IsNone self.old.ended
+            → IfSome (stop_of result)
+            (λ why. IfSome (stream_of self.old.held (S.left source.old))
+            (λ stream. StopsBy stream why)) }
         ensures ended { IsNone self.old.ended → self.new.ended ≡ stop_of result }
-        ensures last { IsNone self.old.ended → IfRequest result (λ raw. 2 ^ 48 ≤ self.old.given + 1 → IsTrue raw.closes) }
-        ensures counts { IsNone self.old.ended → IsNone (stop_of result) → self.new.given ≡ min (self.old.given + 1) (2 ^ 48) }
+        ensures last { IsNone self.old.ended
+            → IfRequest result (λ raw. 2 ^ 48 ≤ self.old.given + 1 → IsTrue raw.closes) }
+        ensures counts { IsNone self.old.ended → IsNone (stop_of result)
+            → self.new.given ≡ min (self.old.given + 1) (2 ^ 48) }
 
         // one that has ended
         ensures again { IfSome self.old.ended (λ why. stop_of result ≡ Some why) }
@@ -76,7 +86,8 @@ impl Reader {
 
         // the source
         ensures later { S.faults source.old ≤ S.faults source.new }
-        ensures fault { IsNone self.old.ended → stop_of result ≡ Some stop.ReadFault → HasRisen (S.faults source.old) (S.faults source.new) }
+        ensures fault { IsNone self.old.ended → stop_of result ≡ Some stop.ReadFault
+            → HasRisen (S.faults source.old) (S.faults source.new) }
         ensures beside { S.beside source.new ≡ S.beside source.old }
     {
         if let Some(why) = self.ended {

@@ -38,7 +38,8 @@ pub struct Framed {
 // The value of the first field `User-Task-ID`.
 fn key_of(alloc: Global, front: &[u8], headers: &[HeaderSpan]) -> Result<Option<Bytes>, AllocError>
     requires { All (IsHeaderWithin (length front.now)) headers.now }
-    ensures { IfOk result (λ k. k ≡ value_in (codes "user-task-id") (map (header_bytes front.now) headers.now)) }
+    ensures { IfOk result
+        (λ k. k ≡ value_in (codes "user-task-id") (map (header_bytes front.now) headers.now)) }
 {
     match value_of(front, headers, "user-task-id") {
         Some(value) => Ok(Some(Bytes::of(alloc, value)?)),
@@ -54,7 +55,8 @@ fn head_of(
     spans: RequestSpans,
 ) -> Result<Head, AllocError>
     requires within { IsRequestWithin front.now headers.now spans }
-    ensures { IfOk result (λ kept. (h : RequestHead) → IsRequestAt front.now headers.now spans h → kept ≡ parts h) }
+    ensures { IfOk result
+        (λ kept. (h : RequestHead) → IsRequestAt front.now headers.now spans h → kept ≡ parts h) }
 {
     let fields = &headers[..spans.headers];
     let method = Bytes::of(alloc, spans.method.of(front))?;
@@ -77,11 +79,17 @@ fn framed_head<S: Source>(
     source: &mut S,
 ) -> Result<Framed, Stop>
     requires room { 5462 ≤ length headers.old }
-    ensures framed { IfOk result (λ f. IfSome (stream_of inbox.old.held.items (S.left source.old)) (λ stream. IsFramed stream f)) }
+    ensures framed { IfOk result
+        (λ f. IfSome (stream_of inbox.old.held.items (S.left source.old))
+        (λ stream. IsFramed stream f)) }
     ensures len { IfOk result (λ f. f.len ≤ 16384) }
     ensures size { IfOk result (λ f. f.size ≤ 1048576) }
-    ensures stream { OnOk result (stream_of inbox.new.held.items (S.left source.new) ≡ stream_of inbox.old.held.items (S.left source.old)) }
-    ensures why { IfErr result (λ e. IfSome (stream_of inbox.old.held.items (S.left source.old)) (λ stream. StopsBy stream e)) }
+    ensures stream { OnOk result
+        (stream_of inbox.new.held.items (S.left source.new)
+        ≡ stream_of inbox.old.held.items (S.left source.old)) }
+    ensures why { IfErr result
+        (λ e. IfSome (stream_of inbox.old.held.items (S.left source.old))
+        (λ stream. StopsBy stream e)) }
     ensures cause { HasReadCause (S.faults source.old) (S.faults source.new) result }
     ensures beside { S.beside source.new ≡ S.beside source.old }
 {
@@ -132,10 +140,18 @@ fn take_body<S: Source>(
 ) -> Result<Bytes, Stop>
     requires len { len ≤ 16384 }
     requires size { size ≤ 1048576 }
-    ensures enough { IfOk result (λ body. IfSome (stream_of inbox.old.held.items (S.left source.old)) (λ stream. len + size ≤ length stream)) }
-    ensures body { IfOk result (λ body. IfSome (stream_of inbox.old.held.items (S.left source.old)) (λ stream. body ≡ take size (drop len stream))) }
-    ensures stream { OnOk result (stream_of inbox.new.held.items (S.left source.new) ≡ after (len + size) (stream_of inbox.old.held.items (S.left source.old))) }
-    ensures cut { result ≡ Err stop.Truncated → IfSome (stream_of inbox.old.held.items (S.left source.old)) (λ stream. length stream < len + size) }
+    ensures enough { IfOk result
+        (λ body. IfSome (stream_of inbox.old.held.items (S.left source.old))
+        (λ stream. len + size ≤ length stream)) }
+    ensures body { IfOk result
+        (λ body. IfSome (stream_of inbox.old.held.items (S.left source.old))
+        (λ stream. body ≡ take size (drop len stream))) }
+    ensures stream { OnOk result
+        (stream_of inbox.new.held.items (S.left source.new)
+        ≡ after (len + size) (stream_of inbox.old.held.items (S.left source.old))) }
+    ensures cut { result ≡ Err stop.Truncated
+        → IfSome (stream_of inbox.old.held.items (S.left source.old))
+        (λ stream. length stream < len + size) }
     ensures why { IfErr result (λ e. (e ≡ stop.Truncated) ⊎ IsOutside e) }
     ensures cause { HasReadCause (S.faults source.old) (S.faults source.new) result }
     ensures beside { S.beside source.new ≡ S.beside source.old }
@@ -171,11 +187,17 @@ pub fn take_request<S: Source>(
     is_last: bool,
 ) -> Result<RawRequest, Stop>
     requires room { 5462 ≤ length headers.old }
-    ensures taken { IfOk result (λ raw. IfSome (stream_of inbox.old.held.items (S.left source.old)) (λ stream.
-        IfSome (stream_of inbox.new.held.items (S.left source.new)) (IsRequest is_last stream raw))) }
+    ensures taken { IfOk result
+        (λ raw. IfSome (stream_of inbox.old.held.items (S.left source.old))
+        (λ stream. IfSome (stream_of inbox.new.held.items (S.left source.new))
+        (IsRequest is_last stream raw))) }
     ensures last { IfOk result (λ raw. IsTrue is_last → IsTrue raw.closes) }
-    ensures told { OnOk result (IsSome (stream_of inbox.old.held.items (S.left source.old)) → IsSome (stream_of inbox.new.held.items (S.left source.new))) }
-    ensures why { IfErr result (λ e. IfSome (stream_of inbox.old.held.items (S.left source.old)) (λ stream. StopsBy stream e)) }
+    ensures told { OnOk result
+        (IsSome (stream_of inbox.old.held.items (S.left source.old))
+        → IsSome (stream_of inbox.new.held.items (S.left source.new))) }
+    ensures why { IfErr result
+        (λ e. IfSome (stream_of inbox.old.held.items (S.left source.old))
+        (λ stream. StopsBy stream e)) }
     ensures cause { HasReadCause (S.faults source.old) (S.faults source.new) result }
     ensures beside { S.beside source.new ≡ S.beside source.old }
 {

@@ -101,10 +101,14 @@ fn look_or_read<S: Source>(
     requires room { 5462 ≤ length headers.old }
     requires due { 16384 ≤ length inbox.old.held.items → IsTrue is_due }
     ensures found { IfOk result (λ o. IfSome o (IsFound inbox.new.held.items headers.new)) }
-    ensures stream { OnOk result (stream_of inbox.new.held.items (S.left source.new) ≡ stream_of inbox.old.held.items (S.left source.old)) }
+    ensures stream { OnOk result
+        (stream_of inbox.new.held.items (S.left source.new)
+        ≡ stream_of inbox.old.held.items (S.left source.old)) }
     ensures short { result ≡ Ok None → length inbox.old.held.items < 16384 }
     ensures longer { result ≡ Ok None → length inbox.old.held.items < length inbox.new.held.items }
-    ensures why { IfErr result (λ e. IfSome (stream_of inbox.old.held.items (S.left source.old)) (λ stream. StopsBy stream e)) }
+    ensures why { IfErr result
+        (λ e. IfSome (stream_of inbox.old.held.items (S.left source.old))
+        (λ stream. StopsBy stream e)) }
     ensures cause { HasReadCause (S.faults source.old) (S.faults source.new) result }
     ensures beside { S.beside source.new ≡ S.beside source.old }
 {
@@ -133,8 +137,12 @@ pub fn find_head<S: Source>(
 ) -> Result<RequestSpans, Stop>
     requires room { 5462 ≤ length headers.old }
     ensures found { IfOk result (IsFound inbox.new.held.items headers.new) }
-    ensures stream { OnOk result (stream_of inbox.new.held.items (S.left source.new) ≡ stream_of inbox.old.held.items (S.left source.old)) }
-    ensures why { IfErr result (λ e. IfSome (stream_of inbox.old.held.items (S.left source.old)) (λ stream. StopsBy stream e)) }
+    ensures stream { OnOk result
+        (stream_of inbox.new.held.items (S.left source.new)
+        ≡ stream_of inbox.old.held.items (S.left source.old)) }
+    ensures why { IfErr result
+        (λ e. IfSome (stream_of inbox.old.held.items (S.left source.old))
+        (λ stream. StopsBy stream e)) }
     ensures cause { HasReadCause (S.faults source.old) (S.faults source.new) result }
     ensures beside { S.beside source.new ≡ S.beside source.old }
 {
@@ -157,8 +165,12 @@ pub fn find_head<S: Source>(
 /// Reads until so many bytes are there.
 pub fn read_to<S: Source>(inbox: &mut Inbox, source: &mut S, count: usize) -> Result<(), Stop>
     ensures enough { OnOk result (count ≤ length inbox.new.held.items) }
-    ensures stream { OnOk result (stream_of inbox.new.held.items (S.left source.new) ≡ stream_of inbox.old.held.items (S.left source.old)) }
-    ensures cut { result ≡ Err stop.Truncated → IfSome (stream_of inbox.old.held.items (S.left source.old)) (λ stream. length stream < count) }
+    ensures stream { OnOk result
+        (stream_of inbox.new.held.items (S.left source.new)
+        ≡ stream_of inbox.old.held.items (S.left source.old)) }
+    ensures cut { result ≡ Err stop.Truncated
+        → IfSome (stream_of inbox.old.held.items (S.left source.old))
+        (λ stream. length stream < count) }
     ensures why { IfErr result (λ e. (e ≡ stop.Truncated) ⊎ IsOutside e) }
     ensures cause { HasReadCause (S.faults source.old) (S.faults source.new) result }
     ensures beside { S.beside source.new ≡ S.beside source.old }

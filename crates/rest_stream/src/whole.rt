@@ -21,9 +21,13 @@ pub struct Whole {
 
 /// Reads a stream to its last request.
 pub fn read_whole<S: Source>(alloc: Global, source: &mut S) -> Result<Whole, Memory>
-    ensures requests { IfOk result (λ whole. IfSome (S.left source.old) (λ stream. Requests 0 stream whole.requests.items (ending whole.stop))) }
+    ensures requests { IfOk result
+        (λ whole. IfSome (S.left source.old)
+        (λ stream. Requests 0 stream whole.requests.items (ending whole.stop))) }
     ensures later { S.faults source.old ≤ S.faults source.new }
-    ensures fault { IfOk result (λ whole. whole.stop ≡ Some stop.ReadFault → HasRisen (S.faults source.old) (S.faults source.new)) }
+    ensures fault { IfOk result
+        (λ whole. whole.stop ≡ Some stop.ReadFault
+        → HasRisen (S.faults source.old) (S.faults source.new)) }
     ensures beside { S.beside source.new ≡ S.beside source.old }
 {
     let mut reader = Reader::new(alloc)?;

@@ -6,12 +6,12 @@ use core_terms::{
 };
 use exec_terms::{Killed, PhaseCounts, Stopped};
 use goal_set::{GoalFault, GoalKind};
-use plan_terms::{BrokerState, Caps, GoalName, Replicas, Topic};
+use plan_terms::{BrokerState, Caps, GoalName, ListOf, Replicas, Topic};
 use rest_parse::{HttpFault, ParameterName, Stop};
 use rest_replies::{Told, reply_bytes};
 use std::alloc::Global;
 use std::process::Abort;
-use user_tasks::{ListOf, Op, Status, task_id};
+use user_tasks::{Op, Status, task_id};
 
 type Rows = Vec<(Told, &'static str)>;
 
@@ -29,7 +29,7 @@ fn goal(rt: &impl Abort, alloc: Global) -> GoalName {
 
 fn named(rt: &impl Abort, alloc: Global) -> Named {
     Named {
-        topic: topic(rt, alloc, "a\"b"),
+        topic: topic(rt, alloc, r#"a"b"#),
         number: 3,
         before: replicas(rt, alloc, &[0, 1]),
         after: replicas(rt, alloc, &[2, 1]),

@@ -1,13 +1,15 @@
 // Pumps and drains of a book, whose admin and copier fail where a row says so. Where a call fails the test panics, in place of `?`, so that
 // a book is dropped at one place alone: the proof of each drop is long.
 use cluster_gate::{FailingAdmin, FailingCopier, MemoryCluster, MemoryCopier};
-use cluster_json::read_cluster;
 use control_core::Book;
 use core_terms::{Event, Reply};
 use mover_rounds::{drain, pump_book};
+use plan_terms::ListOf;
 use std::alloc::{AllocError, Global};
 use std::process::Abort;
-use user_tasks::{Ask, ListOf, Op};
+use std::thread::Threads;
+use test_clusters::cluster;
+use user_tasks::{Ask, Op};
 
 const TWO: &str =
     r#"{"version":1,"brokers":[{"id":0},{"id":1}],"partitions":[{"topic":"t","partition":0,"replicas":[0]}],"config":{"min.valid.partition.ratio":"0"}}"#;
@@ -40,9 +42,7 @@ fn removal(rt: &impl Abort, alloc: Global) -> Event {
 }
 
 fn begun(rt: &impl Abort, alloc: Global, admin: &[u64], copier: &[u64]) -> Run {
-    let Ok(file) = read_cluster(alloc, TWO.as_bytes()) else {
-        panic!(rt; "no cluster");
-    };
+    let file = cluster(alloc, TWO).expect(rt, "cluster");
     let failing = admin.to_vec(alloc).expect(rt, "memory");
     let admin = FailingAdmin::new(MemoryCluster::new(alloc), failing);
     let Ok(mut book) = Book::begin(alloc, file, admin) else {
@@ -58,15 +58,20 @@ fn begun(rt: &impl Abort, alloc: Global, admin: &[u64], copier: &[u64]) -> Run {
 
 impl Run {
     // Takes a step, and tells how it ended.
-    fn step(&mut self, alloc: Global, step: Step) -> Result<String, AllocError> {
+    fn step<R: Threads + Sync>(
+        &mut self,
+        rt: &R,
+        alloc: Global,
+        step: Step,
+    ) -> Result<String, AllocError> {
         match step {
             Step::Pump(steps) => {
-                let end = pump_book(alloc, &mut self.book, &mut self.copier, steps);
+                let end = pump_book(rt, alloc, &mut self.book, &mut self.copier, steps);
                 format!(in alloc; "{end:?}")
             }
             Step::Drain if !self.book.is_quiet() => String::from_str(alloc, "not quiet"),
             Step::Drain => {
-                let end = drain(alloc, &mut self.book, &mut self.copier);
+                let end = drain(rt, alloc, &mut self.book, &mut self.copier);
                 format!(in alloc; "{end:?}")
             }
             Step::Stop(force) => match self.book.step(Event::Stop(force)) {
@@ -176,10 +181,10 @@ const ROWS: [Row; 9] = [
     },
 ];
 
-fn run_row(rt: &impl Abort, alloc: Global, row: &Row) {
+fn run_row<R: Threads + Sync + Abort>(rt: &R, alloc: Global, row: &Row) {
     let mut run = begun(rt, alloc, row.admin, row.copier);
     for (step, wanted) in row.steps {
-        let end = run.step(alloc, *step).expect(rt, "memory");
+        let end = run.step(rt, alloc, *step).expect(rt, "memory");
         assert_eq!(rt; end.as_str(), *wanted);
     }
     assert!(rt; run.book.parts() > 0);

@@ -27,7 +27,8 @@ impl Model for LeaseTable {
 
     ghost view = { λ t. t.leases.items };
 
-    ghost invariant = { λ t. AreFiled t.leases.items t.numbers.items t.holders.items (vec_capacity t.numbers) (vec_capacity t.holders) };
+    ghost invariant = { λ t. AreFiled t.leases.items t.numbers.items t.holders.items
+        (vec_capacity t.numbers) (vec_capacity t.holders) };
 }
 
 impl LeaseTable {
@@ -106,10 +107,12 @@ impl LeaseTable {
 
 // The place of the number.
 fn place_of(numbers: &[u64], number: u64) -> Option<usize>
-    requires { (a b : ℕ) → a < b → b < length numbers.now → get_or numbers.now a 0 < get_or numbers.now b 0 }
+    requires { (a b : ℕ) → a < b → b < length numbers.now
+        → get_or numbers.now a 0 < get_or numbers.now b 0 }
     ensures known { IfSome result (λ a. a < length numbers.now) }
     ensures number { IfSome result (λ a. get_or numbers.now a 0 ≡ number) }
-    ensures none { result ≡ None → (a : ℕ) → a < length numbers.now → get_or numbers.now a 0 ≡ number → ⊥ }
+    ensures none { result ≡ None → (a : ℕ) → a < length numbers.now
+        → get_or numbers.now a 0 ≡ number → ⊥ }
 {
     match numbers.binary_search(&number) {
         Ok(place) => Some(place),

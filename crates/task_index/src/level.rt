@@ -50,7 +50,8 @@ impl Level {
     /// Whether one of the two flags is up that the place in the next level stands for.
     pub fn pair(&self, place: usize) -> bool
         requires { place < 2 ^ 32 }
-        ensures { result ≡ (get_or self.now (2 * place) false || get_or self.now (2 * place + 1) false) }
+        ensures { result
+            ≡ (get_or self.now (2 * place) false || get_or self.now (2 * place + 1) false) }
     {
         self.flag(2 * place) || self.flag(2 * place + 1)
     }

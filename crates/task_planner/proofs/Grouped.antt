@@ -9,7 +9,8 @@ use Rattle.std.proofs.lemmas.List.Sums.{position_or_len_is, sum_by-cons, sum_by-
 use Rattle.std.proofs.Math.Seq.{get_or-append_seam}
 use Rattle.plan_terms.specs.Cluster.{has}
 use Rattle.plan_terms.specs.declared.settings.Caps.{Caps}
-use Rattle.cap_ledger.specs.Ledger.{Ledger, adding_of, removing_of, differ, fits_in}
+use Rattle.plan_terms.specs.Change.{differ}
+use Rattle.cap_ledger.specs.Ledger.{Ledger, adding_of, removing_of, fits_in}
 use Rattle.task_planner.specs.declared.group.Key.{Key}
 use Rattle.task_planner.specs.declared.slot.Slot.{Slot}
 use Rattle.task_planner.specs.Queue.{ended, fits_slot, moves, no_slot, slot_at}

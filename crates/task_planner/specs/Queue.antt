@@ -5,7 +5,8 @@ use Rattle.plan_terms.specs.Belongs.{distinct}
 use Rattle.plan_terms.specs.Cluster.{has}
 use Rattle.plan_terms.specs.declared.lists.Proposal.{Proposal}
 use Rattle.plan_terms.specs.declared.settings.Caps.{Caps}
-use Rattle.cap_ledger.specs.Ledger.{Ledger, differ, fits_in}
+use Rattle.plan_terms.specs.Change.{differ}
+use Rattle.cap_ledger.specs.Ledger.{Ledger, fits_in}
 use Rattle.task_planner.specs.declared.slot.Slot.{Slot}
 
 -- what stands past the last task

@@ -5,9 +5,8 @@ ghost use Rattle.task_planner.specs.Groups.{first_without, key_between, is_open,
 ghost use Rattle.task_planner.specs.Queue.{slot_at, fits_slot};
 
 use crate::slot::Slot;
-use cap_ledger::{Caps, Counts};
-use exec_terms::has;
-use plan_terms::Memory;
+use cap_ledger::Counts;
+use plan_terms::{Caps, Memory, has};
 use std::alloc::Global;
 use std::marker::Model;
 
@@ -115,8 +114,10 @@ impl Group {
         requires group { IsGroup slots.now self.now }
         requires best { best ≤ length slots.now }
         ensures within { result ≤ best }
-        ensures fits { result < best → fits_slot caps.now counts.now may_lead (slot_at slots.now result) ≡ true }
-        ensures least { (i : ℕ) → IsListed self.now i → fits_slot caps.now counts.now may_lead (slot_at slots.now i) ≡ true → result ≤ i }
+        ensures fits { result < best
+            → fits_slot caps.now counts.now may_lead (slot_at slots.now result) ≡ true }
+        ensures least { (i : ℕ) → IsListed self.now i
+            → fits_slot caps.now counts.now may_lead (slot_at slots.now i) ≡ true → result ≤ i }
     {
         for place in self.head..self.tasks.len() {
             let task = self.tasks[place] as usize;
@@ -135,7 +136,8 @@ impl Group {
         requires { IsGroup slots.now self.old }
         ensures key { self.new.key ≡ self.old.key }
         ensures tasks { self.new.tasks ≡ self.old.tasks }
-        ensures kept { (i : ℕ) → (slot_at slots.now i).waits ≡ true → IsListed self.old i → IsListed self.new i }
+        ensures kept { (i : ℕ) → (slot_at slots.now i).waits ≡ true → IsListed self.old i
+            → IsListed self.new i }
     {
         while self.head < self.tasks.len() && !slots[self.tasks[self.head] as usize].waits {
             self.head += 1;

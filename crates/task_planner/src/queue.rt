@@ -7,8 +7,8 @@ ghost use Rattle.task_planner.specs.Queue.{slot_at, ended, waiting, may_lead, mo
 
 use crate::group::{Group, Key};
 use crate::slot::Slot;
-use cap_ledger::{Caps, Counts};
-use plan_terms::{Memory, Proposal};
+use cap_ledger::Counts;
+use plan_terms::{Caps, Memory, Proposal};
 use std::alloc::Global;
 use std::marker::Model;
 
@@ -111,8 +111,10 @@ impl TaskQueue {
 fn first_of(slots: &[Slot], groups: &[Group], caps: &Caps, counts: &Counts, may_lead: bool) -> usize
     requires each { (g : ℕ) → IsGroup slots.now (group_at groups.now g) }
     ensures within { result ≤ length slots.now }
-    ensures fits { result < length slots.now → fits_slot caps.now counts.now may_lead (slot_at slots.now result) ≡ true }
-    ensures least { (i : ℕ) → IsFiled groups.now i → fits_slot caps.now counts.now may_lead (slot_at slots.now i) ≡ true → result ≤ i }
+    ensures fits { result < length slots.now
+        → fits_slot caps.now counts.now may_lead (slot_at slots.now result) ≡ true }
+    ensures least { (i : ℕ) → IsFiled groups.now i
+        → fits_slot caps.now counts.now may_lead (slot_at slots.now i) ≡ true → result ≤ i }
 {
     let mut best = slots.len();
     for group in groups {
@@ -148,7 +150,8 @@ fn count_waiting(slots: &[Slot]) -> usize
 fn place_of(groups: &[Group], key: Key) -> Option<usize>
     ensures known { IfSome result (λ g. g < length groups.now) }
     ensures key { IfSome result (λ g. (group_at groups.now g).key ≡ key) }
-    ensures none { result ≡ None → (g : ℕ) → g < length groups.now → (group_at groups.now g).key ≡ key → ⊥ }
+    ensures none { result ≡ None → (g : ℕ) → g < length groups.now
+        → (group_at groups.now g).key ≡ key → ⊥ }
 {
     for (place, group) in groups.iter().enumerate() {
         if group.key() == key {

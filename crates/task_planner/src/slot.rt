@@ -4,9 +4,9 @@ ghost use Rattle.task_planner.specs.Groups.{key_of};
 ghost use Rattle.task_planner.specs.Queue.{moves, fits_slot};
 
 use crate::group::Key;
-use cap_ledger::{Caps, Counts};
+use cap_ledger::Counts;
 use exec_terms::differs;
-use plan_terms::Replicas;
+use plan_terms::{Caps, Replicas};
 
 // A task's lists, and whether it waits.
 #[derive(Drop)]

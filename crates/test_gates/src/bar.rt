@@ -1,5 +1,5 @@
 // A number that threads share, and the wait for it.
-use load_model::Memory;
+use plan_terms::Memory;
 use std::alloc::Global;
 use std::hint::spin_loop;
 use std::sync::Arc;

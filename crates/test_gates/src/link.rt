@@ -33,7 +33,11 @@ impl Source for GateLink {
 
     ghost left = { λ link. ⟦<GateSource as Source>⟧.left link.source };
 
-    ghost beside = { λ link. (⟦<GateSink as Sink>⟧.faults link.sink, ⟦<GateSink as Sink>⟧.written link.sink) };
+    ghost beside = { λ link. (
+      ⟦<GateSink as Sink>⟧.faults link.sink,
+      ⟦<GateSink as Sink>⟧.written
+          link.sink,
+    ) };
 
     /// Fails where it waited in vain.
     fn read(&mut self, buf: &mut [u8]) -> Result<usize, Failed> {
@@ -46,7 +50,10 @@ impl Sink for GateLink {
 
     ghost written = { λ link. ⟦<GateSink as Sink>⟧.written link.sink };
 
-    ghost beside = { λ link. (⟦<GateSource as Source>⟧.faults link.source, ⟦<GateSource as Source>⟧.left link.source) };
+    ghost beside = { λ link. (
+      ⟦<GateSource as Source>⟧.faults link.source,
+      ⟦<GateSource as Source>⟧.left link.source,
+    ) };
 
     fn write(&mut self, bytes: &[u8]) -> Result<usize, Failed> {
         self.sink.write(bytes)

@@ -3,7 +3,7 @@ ghost use Rattle.std.specs.Prelude.{◌≡◌, [], Some, IfOk};
 
 use crate::bar::{Bar, LOOKS, Word};
 use cluster_gate::{ChunkCopy, Copier, CopyFault, MemoryCopier};
-use load_model::Memory;
+use plan_terms::Memory;
 use std::alloc::Global;
 
 /// A copier that notes its copies, and makes none before a copy of its fellow has begun.

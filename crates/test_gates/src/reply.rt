@@ -7,7 +7,7 @@ use crate::sink::{Counted, GateSink};
 use crate::source::GateSource;
 use cc_base::{Sink, Source};
 use cluster_gate::{ChunkCopy, Copier, CopyFault, MemoryCopier};
-use load_model::Memory;
+use plan_terms::Memory;
 use std::alloc::Global;
 
 /// A copier that notes its copies, and makes none before replies were written.
@@ -30,7 +30,8 @@ fn joined(alloc: Global, first: &[u8], last: &[u8]) -> Result<Vec<u8>, Memory>
 
 // A source of these bytes, with the bar between them.
 fn barred(alloc: Global, first: &[u8], last: &[u8], bar: Bar) -> Result<GateSource, Memory>
-    ensures left { IfOk result (λ source. ⟦<GateSource as Source>⟧.left source ≡ Some (first.now ++ last.now)) }
+    ensures left { IfOk result
+        (λ source. ⟦<GateSource as Source>⟧.left source ≡ Some (first.now ++ last.now)) }
     ensures faults { IfOk result (λ source. ⟦<GateSource as Source>⟧.faults source ≡ 0) }
 {
     let bytes = joined(alloc, first, last)?;
@@ -53,7 +54,8 @@ impl ReplyGate {
     ) -> Result<(ReplyGate, GateSource, GateSink), Memory>
         ensures copies { IfOk result (λ gate. ⟦<ReplyGate as Copier>⟧.copies gate.0 ≡ Some []) }
         ensures copy_faults { IfOk result (λ gate. ⟦<ReplyGate as Copier>⟧.faults gate.0 ≡ 0) }
-        ensures left { IfOk result (λ gate. ⟦<GateSource as Source>⟧.left gate.1 ≡ Some (first.now ++ last.now)) }
+        ensures left { IfOk result
+            (λ gate. ⟦<GateSource as Source>⟧.left gate.1 ≡ Some (first.now ++ last.now)) }
         ensures read_faults { IfOk result (λ gate. ⟦<GateSource as Source>⟧.faults gate.1 ≡ 0) }
         ensures written { IfOk result (λ gate. ⟦<GateSink as Sink>⟧.written gate.2 ≡ Some []) }
         ensures write_faults { IfOk result (λ gate. ⟦<GateSink as Sink>⟧.faults gate.2 ≡ 0) }
@@ -71,7 +73,8 @@ impl ReplyGate {
     ) -> Result<(ReplyGate, GateSource, GateSink), Memory>
         ensures copies { IfOk result (λ gate. ⟦<ReplyGate as Copier>⟧.copies gate.0 ≡ Some []) }
         ensures copy_faults { IfOk result (λ gate. ⟦<ReplyGate as Copier>⟧.faults gate.0 ≡ 0) }
-        ensures left { IfOk result (λ gate. ⟦<GateSource as Source>⟧.left gate.1 ≡ Some (first.now ++ last.now)) }
+        ensures left { IfOk result
+            (λ gate. ⟦<GateSource as Source>⟧.left gate.1 ≡ Some (first.now ++ last.now)) }
         ensures read_faults { IfOk result (λ gate. ⟦<GateSource as Source>⟧.faults gate.1 ≡ 0) }
         ensures written { IfOk result (λ gate. ⟦<GateSink as Sink>⟧.written gate.2 ≡ Some []) }
         ensures write_faults { IfOk result (λ gate. ⟦<GateSink as Sink>⟧.faults gate.2 ≡ 0) }
@@ -117,12 +120,19 @@ impl ReplyGate {
     ///
     /// Want of memory.
     pub fn links(alloc: Global, first: &[u8], last: &[u8]) -> Result<(GateLink, GateLink), Memory>
-        ensures one_left { IfOk result (λ links. ⟦<GateLink as Source>⟧.left links.0 ≡ Some (first.now ++ last.now)) }
+        ensures one_left { IfOk result
+            (λ links. ⟦<GateLink as Source>⟧.left links.0 ≡ Some (first.now ++ last.now)) }
         ensures one_written { IfOk result (λ links. ⟦<GateLink as Sink>⟧.written links.0 ≡ Some []) }
-        ensures one_faults { IfOk result (λ links. ⟦<GateLink as Source>⟧.faults links.0 + ⟦<GateLink as Sink>⟧.faults links.0 ≡ 0) }
-        ensures other_left { IfOk result (λ links. ⟦<GateLink as Source>⟧.left links.1 ≡ Some (first.now ++ last.now)) }
-        ensures other_written { IfOk result (λ links. ⟦<GateLink as Sink>⟧.written links.1 ≡ Some []) }
-        ensures other_faults { IfOk result (λ links. ⟦<GateLink as Source>⟧.faults links.1 + ⟦<GateLink as Sink>⟧.faults links.1 ≡ 0) }
+        ensures one_faults { IfOk result
+            (λ links. ⟦<GateLink as Source>⟧.faults links.0 + ⟦<GateLink as Sink>⟧.faults links.0
+            ≡ 0) }
+        ensures other_left { IfOk result
+            (λ links. ⟦<GateLink as Source>⟧.left links.1 ≡ Some (first.now ++ last.now)) }
+        ensures other_written { IfOk result
+            (λ links. ⟦<GateLink as Sink>⟧.written links.1 ≡ Some []) }
+        ensures other_faults { IfOk result
+            (λ links. ⟦<GateLink as Source>⟧.faults links.1 + ⟦<GateLink as Sink>⟧.faults links.1
+            ≡ 0) }
     {
         ReplyGate::links_within(alloc, first, last, LOOKS)
     }
@@ -134,12 +144,19 @@ impl ReplyGate {
         last: &[u8],
         looks: u32,
     ) -> Result<(GateLink, GateLink), Memory>
-        ensures one_left { IfOk result (λ links. ⟦<GateLink as Source>⟧.left links.0 ≡ Some (first.now ++ last.now)) }
+        ensures one_left { IfOk result
+            (λ links. ⟦<GateLink as Source>⟧.left links.0 ≡ Some (first.now ++ last.now)) }
         ensures one_written { IfOk result (λ links. ⟦<GateLink as Sink>⟧.written links.0 ≡ Some []) }
-        ensures one_faults { IfOk result (λ links. ⟦<GateLink as Source>⟧.faults links.0 + ⟦<GateLink as Sink>⟧.faults links.0 ≡ 0) }
-        ensures other_left { IfOk result (λ links. ⟦<GateLink as Source>⟧.left links.1 ≡ Some (first.now ++ last.now)) }
-        ensures other_written { IfOk result (λ links. ⟦<GateLink as Sink>⟧.written links.1 ≡ Some []) }
-        ensures other_faults { IfOk result (λ links. ⟦<GateLink as Source>⟧.faults links.1 + ⟦<GateLink as Sink>⟧.faults links.1 ≡ 0) }
+        ensures one_faults { IfOk result
+            (λ links. ⟦<GateLink as Source>⟧.faults links.0 + ⟦<GateLink as Sink>⟧.faults links.0
+            ≡ 0) }
+        ensures other_left { IfOk result
+            (λ links. ⟦<GateLink as Source>⟧.left links.1 ≡ Some (first.now ++ last.now)) }
+        ensures other_written { IfOk result
+            (λ links. ⟦<GateLink as Sink>⟧.written links.1 ≡ Some []) }
+        ensures other_faults { IfOk result
+            (λ links. ⟦<GateLink as Source>⟧.faults links.1 + ⟦<GateLink as Sink>⟧.faults links.1
+            ≡ 0) }
     {
         let one = Word::new(alloc)?;
         let other = Word::new(alloc)?;

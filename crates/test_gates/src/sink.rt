@@ -3,7 +3,7 @@ ghost use Rattle.std.specs.Prelude.{◌≡◌, [], None, Some, IfOk};
 
 use crate::bar::Word;
 use cc_base::{Failed, MemorySink, Sink};
-use load_model::Memory;
+use plan_terms::Memory;
 use std::alloc::Global;
 
 // What ends the head of a reply. No body of compact JSON holds it.

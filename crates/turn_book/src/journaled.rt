@@ -52,10 +52,12 @@ pub trait Journaled {
         ensures blameless { OnOk result (blamed self.new ≡ blamed self.old) }
         ensures unchanged { OnErr result (journal self.new ≡ journal self.old) }
         ensures handed_back { IfErr result (λ e. e.1 ≡ event) }
-        ensures unsure { IfErr result (λ e. blame_of e.0 ≡ 0 → sure (opening self.old) (journal self.old) event ≡ false) }
+        ensures unsure { IfErr result
+            (λ e. blame_of e.0 ≡ 0 → sure (opening self.old) (journal self.old) event ≡ false) }
         ensures want { IfErr result (λ e. (blame_of e.0 ≡ 0) ↔ is_want e.0) }
         ensures outward { IfErr result (λ e. 0 < blame_of e.0 → outward event ≡ true) }
-        ensures blame { IfErr result (λ e. HasBlamed (blame_of e.0) (blamed self.old) (blamed self.new)) };
+        ensures blame { IfErr result
+            (λ e. HasBlamed (blame_of e.0) (blamed self.old) (blamed self.new)) };
 
     /// Whether idle callers may find work after the reply.
     fn stirs(reply: &Self::Reply) -> bool

@@ -51,7 +51,10 @@ pub struct BookTable<B: Journaled> {
 impl<B: Journaled> BookTable<B> {
     /// A table with the book at home, and the seat of the first pass. Out of memory the book is handed back.
     pub fn new(alloc: Global, book: B) -> Result<(BookTable<B>, Place<B>), B>
-        ensures first { IfOk result (λ t. IsFirst B.opening B.journal (record { table = t.0.inner.shared.table_id; start = t.0.inner.shared.key.value }) book (known_of t.1.table_id t.1.me.0)) }
+        ensures first { IfOk result
+            (λ t. IsFirst B.opening B.journal
+            (record { table = t.0.inner.shared.table_id; start = t.0.inner.shared.key.value })
+            book (known_of t.1.table_id t.1.me.0)) }
         ensures idle { IfOk result (λ t. IsIdle t.1.me) }
         ensures handed_back { IfErr result (λ b. b ≡ book) }
     {
@@ -74,9 +77,11 @@ impl<B: Journaled> BookTable<B> {
 
     // Takes the turn and the book.
     fn take<R: Wait>(&self, rt: &R, place: &mut Place<B>) -> B
-        requires own { IsSeatOf B.opening self.now.inner.shared.table_id self.now.inner.shared.key.value place.old.table_id place.old.me }
+        requires own { IsSeatOf B.opening self.now.inner.shared.table_id
+            self.now.inner.shared.key.value place.old.table_id place.old.me }
         ensures same { place.new.table_id ≡ place.old.table_id }
-        ensures turn { HasTurn B.opening B.journal B.blamed self.now.inner.shared.key.value place.old.me.0 place.new.me result }
+        ensures turn { HasTurn B.opening B.journal B.blamed self.now.inner.shared.key.value
+            place.old.me.0 place.new.me result }
     {
         for _ in rt.forever() {
             if self
@@ -95,8 +100,10 @@ impl<B: Journaled> BookTable<B> {
     // Puts the book back, and ends the turn.
     fn give(&self, place: &mut Place<B>, book: B)
         requires same { place.old.table_id ≡ self.now.inner.shared.table_id }
-        requires may { MayEnd B.opening B.journal B.blamed self.now.inner.shared.key.value place.old.me book }
-        ensures freed { (place.new.table_id ≡ place.old.table_id) × (place.new.me ≡ (freed place.old.me.0, [])) }
+        requires may { MayEnd B.opening B.journal B.blamed self.now.inner.shared.key.value
+            place.old.me book }
+        ensures freed { (place.new.table_id ≡ place.old.table_id)
+            × (place.new.me ≡ (freed place.old.me.0, [])) }
         ensures placed { ArePlaced place.new.me.0.seen place.new.me.0.mine }
     {
         match self.inner.shared.exchange(place, BOOK, Some(book)) {
@@ -109,10 +116,12 @@ impl<B: Journaled> BookTable<B> {
 
     // Gives the book's last entry its place in the history.
     fn publish(&self, place: &mut Place<B>, book: B, count: u64) -> B
-        requires own { (place.old.table_id ≡ self.now.inner.shared.table_id) × (0 < place.old.me.0.parts) × (place.old.me.0.holds ≡ true) }
+        requires own { (place.old.table_id ≡ self.now.inner.shared.table_id)
+            × (0 < place.old.me.0.parts) × (place.old.me.0.holds ≡ true) }
         requires count { (count ≡ length place.old.me.0.seen) × (count < 2 ^ 63) }
         requires entry { HasOneMore B.journal place.old.me.0.seen book }
-        ensures same { (result ≡ book) × (place.new.table_id ≡ place.old.table_id) × (place.new.me.1 ≡ place.old.me.1) }
+        ensures same { (result ≡ book) × (place.new.table_id ≡ place.old.table_id)
+            × (place.new.me.1 ≡ place.old.me.1) }
         ensures entry { IsPublished (B.journal book) place.old.me.0 place.new.me.0 }
     {
         let held = Some(book);
@@ -129,10 +138,19 @@ impl<B: Journaled> BookTable<B> {
         place: &mut Place<B>,
         event: B::Event,
     ) -> Result<B::Reply, (B::Fault, B::Event)>
-        requires own { IsSeatOf B.opening self.now.inner.shared.table_id self.now.inner.shared.key.value place.old.table_id place.old.me }
-        ensures own { IsSeatOf B.opening self.now.inner.shared.table_id self.now.inner.shared.key.value place.new.table_id place.new.me }
-        ensures made { IfOk result (HasActed B.reply_of (B.opening self.now.inner.shared.key.value) (known_of place.old.table_id place.old.me.0) (known_of place.new.table_id place.new.me.0) event) }
-        ensures refused { IfErr result (IsRefused B.blame_of B.is_want B.sure B.outward (B.opening self.now.inner.shared.key.value) (known_of place.old.table_id place.old.me.0) (known_of place.new.table_id place.new.me.0) event) }
+        requires own { IsSeatOf B.opening self.now.inner.shared.table_id
+            self.now.inner.shared.key.value place.old.table_id place.old.me }
+        ensures own { IsSeatOf B.opening self.now.inner.shared.table_id
+            self.now.inner.shared.key.value place.new.table_id place.new.me }
+        ensures made { IfOk result
+            (HasActed B.reply_of (B.opening self.now.inner.shared.key.value)
+            (known_of place.old.table_id place.old.me.0)
+            (known_of place.new.table_id place.new.me.0) event) }
+        ensures refused { IfErr result
+            (IsRefused B.blame_of B.is_want B.sure B.outward
+            (B.opening self.now.inner.shared.key.value)
+            (known_of place.old.table_id place.old.me.0)
+            (known_of place.new.table_id place.new.me.0) event) }
     {
         let mut book = self.take(rt, place);
         let count = book.entries();
@@ -155,32 +173,43 @@ impl<B: Journaled> BookTable<B> {
 
     /// The length of the history, which the pass has then seen.
     pub fn learn(&self, place: &mut Place<B>) -> u64
-        requires own { IsSeatOf B.opening self.now.inner.shared.table_id self.now.inner.shared.key.value place.old.table_id place.old.me }
-        ensures own { IsSeatOf B.opening self.now.inner.shared.table_id self.now.inner.shared.key.value place.new.table_id place.new.me }
+        requires own { IsSeatOf B.opening self.now.inner.shared.table_id
+            self.now.inner.shared.key.value place.old.table_id place.old.me }
+        ensures own { IsSeatOf B.opening self.now.inner.shared.table_id
+            self.now.inner.shared.key.value place.new.table_id place.new.me }
         ensures length { length place.new.me.0.seen ≡ result }
-        ensures looked { HasLooked (known_of place.old.table_id place.old.me.0) (known_of place.new.table_id place.new.me.0) }
+        ensures looked { HasLooked (known_of place.old.table_id place.old.me.0)
+            (known_of place.new.table_id place.new.me.0) }
     {
         self.inner.shared.load::<Look<B>>(place, COUNT)
     }
 
     /// One part goes to a new pass, which has seen as much and has no entry.
     pub fn split(&self, place: &mut Place<B>) -> Place<B>
-        requires own { IsSeatOf B.opening self.now.inner.shared.table_id self.now.inner.shared.key.value place.old.table_id place.old.me }
+        requires own { IsSeatOf B.opening self.now.inner.shared.table_id
+            self.now.inner.shared.key.value place.old.table_id place.old.me }
         requires parts { 1 < place.old.me.0.parts }
-        ensures own { IsSeatOf B.opening self.now.inner.shared.table_id self.now.inner.shared.key.value place.new.table_id place.new.me }
-        ensures new { IsSeatOf B.opening self.now.inner.shared.table_id self.now.inner.shared.key.value result.table_id result.me }
-        ensures views { (place.new.me.0 ≡ one_less place.old.me.0) × (result.me.0 ≡ told place.old.me.0) }
+        ensures own { IsSeatOf B.opening self.now.inner.shared.table_id
+            self.now.inner.shared.key.value place.new.table_id place.new.me }
+        ensures new { IsSeatOf B.opening self.now.inner.shared.table_id
+            self.now.inner.shared.key.value result.table_id result.me }
+        ensures views { (place.new.me.0 ≡ one_less place.old.me.0)
+            × (result.me.0 ≡ told place.old.me.0) }
     {
         self.inner.shared.split_seat::<OnePart<B>>(place)
     }
 
     /// The pass gets all of the other's.
     pub fn join(&self, place: &mut Place<B>, other: Place<B>)
-        requires own { IsSeatOf B.opening self.now.inner.shared.table_id self.now.inner.shared.key.value place.old.table_id place.old.me }
-        requires other { IsSeatOf B.opening self.now.inner.shared.table_id self.now.inner.shared.key.value other.table_id other.me }
-        ensures own { IsSeatOf B.opening self.now.inner.shared.table_id self.now.inner.shared.key.value place.new.table_id place.new.me }
+        requires own { IsSeatOf B.opening self.now.inner.shared.table_id
+            self.now.inner.shared.key.value place.old.table_id place.old.me }
+        requires other { IsSeatOf B.opening self.now.inner.shared.table_id
+            self.now.inner.shared.key.value other.table_id other.me }
+        ensures own { IsSeatOf B.opening self.now.inner.shared.table_id
+            self.now.inner.shared.key.value place.new.table_id place.new.me }
         ensures view { place.new.me.0 ≡ settled (joined place.old.me.0 other.me.0) }
-        ensures longer { IsPrefix place.old.me.0.seen place.new.me.0.seen × IsPrefix other.me.0.seen place.new.me.0.seen }
+        ensures longer { IsPrefix place.old.me.0.seen place.new.me.0.seen
+            × IsPrefix other.me.0.seen place.new.me.0.seen }
     {
         self.inner.shared.join_seat::<Both<B>>(place, other);
         self.inner.shared.load::<Compare<B>>(place, COUNT);
@@ -188,7 +217,8 @@ impl<B: Journaled> BookTable<B> {
 
     /// Wakes those who rest, where the reply stirs.
     pub fn stir_if(&self, place: &mut Place<B>, stirs: bool)
-        requires own { IsSeatOf B.opening self.now.inner.shared.table_id self.now.inner.shared.key.value place.old.table_id place.old.me }
+        requires own { IsSeatOf B.opening self.now.inner.shared.table_id
+            self.now.inner.shared.key.value place.old.table_id place.old.me }
         ensures { (place.new.table_id ≡ place.old.table_id) × (place.new.me ≡ place.old.me) }
     {
         if stirs {
@@ -199,7 +229,8 @@ impl<B: Journaled> BookTable<B> {
 
     /// The number of stirs.
     pub fn stirs(&self, place: &mut Place<B>) -> u64
-        requires own { IsSeatOf B.opening self.now.inner.shared.table_id self.now.inner.shared.key.value place.old.table_id place.old.me }
+        requires own { IsSeatOf B.opening self.now.inner.shared.table_id
+            self.now.inner.shared.key.value place.old.table_id place.old.me }
         ensures { (place.new.table_id ≡ place.old.table_id) × (place.new.me ≡ place.old.me) }
     {
         self.inner.shared.load::<Stir<B>>(place, STIRS)
@@ -214,9 +245,11 @@ impl<B: Journaled> BookTable<B> {
 
     /// The book, once no other pass is out.
     pub fn close(self, place: Place<B>) -> B
-        requires own { IsSeatOf B.opening self.inner.shared.table_id self.inner.shared.key.value place.table_id place.me }
+        requires own { IsSeatOf B.opening self.inner.shared.table_id self.inner.shared.key.value
+            place.table_id place.me }
         requires parts { place.me.0.parts ≡ 1048576 }
-        ensures { IsWhole B.opening B.journal B.blamed self.inner.shared.key.value (known_of place.table_id place.me.0) result }
+        ensures { IsWhole B.opening B.journal B.blamed self.inner.shared.key.value
+            (known_of place.table_id place.me.0) result }
     {
         let BookTable { inner } = self;
         let mut closed = inner.close_with(place);

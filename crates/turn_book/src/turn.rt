@@ -20,7 +20,10 @@ impl<B: Journaled> Model for Turn<B> {
 
     ghost Value = { Made B };
 
-    ghost view = { λ t. record { table = t.table.inner.shared.table_id; start = t.table.inner.shared.key.value } };
+    ghost view = { λ t. record {
+      table = t.table.inner.shared.table_id;
+      start = t.table.inner.shared.key.value;
+    } };
 }
 
 /// What one caller knows of the history, and the entries that it made. The passes of a turn have 1,048,576 parts together.
@@ -88,8 +91,11 @@ impl<B: Journaled> Turn<B> {
     ) -> Result<B::Reply, (B::Fault, B::Event)>
         requires own { IsPassOf B.opening self.now pass.old }
         ensures own { IsPassOf B.opening self.now pass.new }
-        ensures made { IfOk result (HasActed B.reply_of (B.opening self.now.start) pass.old pass.new event) }
-        ensures refused { IfErr result (IsRefused B.blame_of B.is_want B.sure B.outward (B.opening self.now.start) pass.old pass.new event) }
+        ensures made { IfOk result
+            (HasActed B.reply_of (B.opening self.now.start) pass.old pass.new event) }
+        ensures refused { IfErr result
+            (IsRefused B.blame_of B.is_want B.sure B.outward (B.opening self.now.start) pass.old
+            pass.new event) }
     {
         pass.stirs = self.table.stirs(&mut pass.place);
         match self.table.act(rt, &mut pass.place, event) {

@@ -60,7 +60,8 @@ pub fn act_both<A: Admin + Send, R: Threads + Wait + Sync>(
     first: Vec<Event>,
     second: Vec<Event>,
 ) -> Result<Shared<A>, (Memory, Book<A>)>
-    ensures shares { IfOk result (λ s. (one two : List (ℕ × Event)) × AreShares book.journal s.book.journal one two) }
+    ensures shares { IfOk result
+        (λ s. (one two : List (ℕ × Event)) × AreShares book.journal s.book.journal one two) }
     ensures handed_back { IfErr result (λ e. e.1 ≡ book) }
 {
     let (turn, mut pass) = Turn::new(alloc, book)?;

@@ -1,20 +1,18 @@
 // A book of a cluster in memory. Where a call fails the tests panic, in place of `?`, so that a book is dropped at one place alone: the
 // proof of each drop is long.
 use cluster_gate::MemoryCluster;
-use cluster_json::read_cluster;
 use control_core::Book;
 use core_terms::{Event, Reply};
 use std::alloc::Global;
 use std::process::Abort;
+use test_clusters::cluster;
 
 /// A book in memory.
 pub type MemoryBook = Book<MemoryCluster>;
 
 /// The book of a cluster file.
 pub fn book_of<R: Abort>(rt: &R, alloc: Global, text: &str) -> MemoryBook {
-    let Ok(file) = read_cluster(alloc, text.as_bytes()) else {
-        panic!(rt; "no cluster");
-    };
+    let file = cluster(alloc, text).expect(rt, "cluster");
     let Ok(book) = Book::begin(alloc, file, MemoryCluster::new(alloc)) else {
         panic!(rt; "no book");
     };

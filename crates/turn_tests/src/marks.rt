@@ -1,10 +1,9 @@
 // The events of callers, each with a mark by which it is found in a journal.
 use core_terms::{CapChange, Event};
-use load_model::Loads;
-use plan_terms::{Measured, Topic};
+use plan_terms::{ListOf, Loads, Measured, Topic};
 use std::alloc::Global;
 use std::process::Abort;
-use user_tasks::{Ask, ListOf, Op, Query, task_id};
+use user_tasks::{Ask, Op, Query, task_id};
 
 /// What a caller asks.
 #[derive(Clone, Copy, Debug, PartialEq, Eq)]

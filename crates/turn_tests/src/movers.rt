@@ -30,7 +30,7 @@ struct Back {
     end: LoopEnd,
 }
 
-fn run_mover<R: Wait>(
+fn run_mover<R: Threads + Wait + Sync>(
     rt: &R,
     alloc: Global,
     turn: &Turn<MemoryBook>,

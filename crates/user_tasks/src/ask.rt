@@ -1,8 +1,7 @@
 // What a request for a plan asks.
-ghost use Rattle.std.specs.Prelude.{◌≡◌, ◌↔◌, IfOk, IsTrue, List, ℕ};
+ghost use Rattle.std.specs.Prelude.{◌≡◌, ◌↔◌, IfOk, IsTrue};
 
-use crate::lists::ListOf;
-use plan_terms::{GoalName, Memory, Topic};
+use plan_terms::{GoalName, ListOf, Memory, Name, Topic};
 use std::alloc::Global;
 
 /// What is shown of the service.
@@ -45,55 +44,14 @@ pub struct Ask {
     pub dryrun: bool,
 }
 
-// What has a text, by which it is told from others.
-trait Named {
-    ghost name: { Self → List ℕ };
-
-    fn name(&self) -> &str
-        ensures { result.now ≡ name self.now };
-
-    fn copy(&self, alloc: Global) -> Result<Self, Memory>
-        ensures { IfOk result (λ n. n ≡ self.now) };
-
-    ghost told_apart: { (a b : Self) → name a ≡ name b → a ≡ b };
-}
-
-impl Named for GoalName {
-    ghost name = { λ n. n };
-
-    fn name(&self) -> &str {
-        self.as_str()
-    }
-
-    fn copy(&self, alloc: Global) -> Result<Self, Memory> {
-        self.copy(alloc)
-    }
-
-    ghost told_apart = { λ _ _ e. e };
-}
-
-impl Named for Topic {
-    ghost name = { λ t. t };
-
-    fn name(&self) -> &str {
-        self.as_str()
-    }
-
-    fn copy(&self, alloc: Global) -> Result<Self, Memory> {
-        self.copy(alloc)
-    }
-
-    ghost told_apart = { λ _ _ e. e };
-}
-
-fn same_names<N: Named>(one: &[N], other: &[N]) -> bool
+fn same_names<K>(one: &[Name<K>], other: &[Name<K>]) -> bool
     ensures { IsTrue result ↔ (one.now ≡ other.now) }
 {
     if one.len() != other.len() {
         return false;
     }
-    for (place, named) in one.iter().enumerate() {
-        if named.name() != other[place].name() {
+    for (place, name) in one.iter().enumerate() {
+        if name.as_str() != other[place].as_str() {
             return false;
         }
     }
@@ -101,12 +59,12 @@ fn same_names<N: Named>(one: &[N], other: &[N]) -> bool
 }
 
 // The same names.
-fn copied<N: Named + Drop>(alloc: Global, names: &[N]) -> Result<ListOf<N>, Memory>
+fn copied<K>(alloc: Global, names: &[Name<K>]) -> Result<ListOf<Name<K>>, Memory>
     ensures { IfOk result (λ l. l ≡ names.now) }
 {
     let mut copies = Vec::new(alloc);
-    for named in names {
-        copies.push(named.copy(alloc)?)?;
+    for name in names {
+        copies.push(name.copy(alloc)?)?;
     }
     Ok(ListOf::new(copies))
 }

@@ -116,7 +116,8 @@ impl TaskTable {
     /// Makes the request the next user task, which is active, and answers its id. A fault hands the request back and changes
     /// nothing.
     pub fn admit(&mut self, ask: Ask) -> Result<Uuid, (AdmitFault, Ask)>
-        ensures admitted { OnOk result (self.new ≡ self.old ++ record { ask = ask; status = status.Active } ∷ []) }
+        ensures admitted { OnOk result
+            (self.new ≡ self.old ++ record { ask = ask; status = status.Active } ∷ []) }
         ensures id { IfOk result (λ id. id ≡ id_of (length self.new)) }
         ensures room { OnOk result (open_count self.old < 16) }
         ensures fault { IfErr result (λ e. IsAdmitFault self.old e.0 × (e.1 ≡ ask)) }
@@ -140,7 +141,8 @@ impl TaskTable {
 
     // The user task with this id.
     fn task_with(&self, id: Uuid) -> Option<&UserTask>
-        ensures { MatchOption result ((t : UserTask) → HasId self.now id t → ⊥) (λ t. HasId self.now id t.now) }
+        ensures { MatchOption result ((t : UserTask) → HasId self.now id t → ⊥)
+            (λ t. HasId self.now id t.now) }
     {
         let tasks = self.tasks();
         match number_of(id) {
@@ -165,7 +167,8 @@ impl TaskTable {
     pub fn set(&mut self, number: u64, status: Status)
         requires some { 1 ≤ number }
         requires known { number ≤ length self.old }
-        ensures { (t : UserTask) × (task_at self.old number ≡ Some t) × (self.new ≡ slice_set self.old (number - 1) (record t { status = status })) }
+        ensures { (t : UserTask) × (task_at self.old number ≡ Some t)
+            × (self.new ≡ slice_set self.old (number - 1) (record t { status = status })) }
     {
         let place = number as usize - 1;
         let was = usize::from(self.tasks[place].status.is_open());

@@ -1,7 +1,7 @@
 use Rattle.std.proofs.Common.{get_or}
 use Rattle.goal_terms.proofs.BoundLemmas.{quantity-small}
 use Rattle.goal_terms.proofs.CaseLemmas.{Limits-case}
-use Rattle.goal_terms.specs.PerBroker.{id_at}
+use Rattle.plan_terms.specs.Cluster.{id_at}
 use Rattle.broker_goals.proofs.excess.amount_at.Goals as goal
 
 pub returns-clause-small : goal.returns-clause-small

@@ -2,7 +2,7 @@ use Rattle.std.proofs.Common.{◌∙◌, sym}
 use Rattle.goal_terms.proofs.CaseLemmas.{Limits-case}
 use Rattle.goal_terms.proofs.PlaceLemmas.{heat_at_id-place}
 use Rattle.goal_terms.specs.Heats.{bound_heat}
-use Rattle.goal_terms.specs.PerBroker.{id_at}
+use Rattle.plan_terms.specs.Cluster.{id_at}
 use Rattle.goal_terms.specs.Quantity.{quantity, total}
 use Rattle.broker_goals.proofs.excess.heat_at_place.Goals as goal
 

@@ -3,7 +3,7 @@ use Rattle.goal_terms.proofs.BoundLemmas.{total-small}
 use Rattle.goal_terms.proofs.CaseLemmas.{Limits-case}
 use Rattle.goal_terms.proofs.PlaceLemmas.{room_at_id-place}
 use Rattle.goal_terms.specs.Rooms.{bound_room}
-use Rattle.goal_terms.specs.PerBroker.{id_at}
+use Rattle.plan_terms.specs.Cluster.{id_at}
 use Rattle.goal_terms.specs.Quantity.{quantity, total}
 use Rattle.broker_goals.proofs.excess.room_at_place.Goals as goal
 

@@ -2,7 +2,7 @@ use Rattle.std.proofs.Common.{◌<◌, length, ◌∷◌, [], sym, ap, arith}
 use Rattle.std.proofs.lemmas.List.{map-append, take_more, length-map}
 use Rattle.std.proofs.lemmas.List.Elements.{All-push}
 use Rattle.plan_terms.specs.declared.cluster.Broker.{Broker}
-use Rattle.goal_terms.specs.PerBroker.{ids_of}
+use Rattle.plan_terms.specs.Cluster.{ids_of}
 use Rattle.candidate_order.specs.Scan.{IsRow}
 use Rattle.candidate_order.specs.declared.kept.Row.{Row}
 use Rattle.candidate_order.proofs.kept.all_rows.Goals as goal

@@ -2,7 +2,7 @@ use Rattle.std.proofs.Common.{◌≡◌, map, take}
 use Rattle.std.specs.List.{All}
 use Rattle.candidate_order.specs.Scan.{IsRow}
 use Rattle.candidate_order.specs.declared.kept.Row.{Row}
-use Rattle.goal_terms.specs.PerBroker.{ids_of}
+use Rattle.plan_terms.specs.Cluster.{ids_of}
 use Rattle.candidate_order.proofs.kept.all_rows.Given as goal
 
 abbrev pub invariant-loop-broker : goal.invariant-loop-broker

@@ -1,5 +1,5 @@
 use Rattle.std.proofs.Common.{◌≡◌, map, ◌∙◌}
-use Rattle.goal_terms.specs.PerBroker.{ids_of}
+use Rattle.plan_terms.specs.Cluster.{ids_of}
 use Rattle.candidate_order.specs.declared.kept.Row.{Row}
 use Rattle.candidate_order.proofs.RowLemmas.{row-within, row-id}
 use Rattle.candidate_order.proofs.kept.row_of.Goals as goal

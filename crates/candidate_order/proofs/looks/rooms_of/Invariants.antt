@@ -1,5 +1,5 @@
 use Rattle.std.proofs.Common.{◌≡◌, map, take}
-use Rattle.goal_terms.specs.PerBroker.{id_at}
+use Rattle.plan_terms.specs.Cluster.{id_at}
 use Rattle.candidate_order.specs.Looks.{look_room}
 use Rattle.candidate_order.proofs.looks.rooms_of.Given as goal
 

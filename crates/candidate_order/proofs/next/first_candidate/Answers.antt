@@ -1,22 +1,7 @@
-use Rattle.std.proofs.Common.{◌≡◌, map, refl}
-use Rattle.std.specs.List.{All}
-use Rattle.goal_terms.specs.PerBroker.{ids_of}
-use Rattle.candidate_order.specs.declared.kept.Row.{Row}
+use Rattle.std.proofs.Common.{map}
 use Rattle.candidate_order.proofs.Complete.{NoneLeft-candidates}
-use Rattle.candidate_order.proofs.KindLemmas.{by_kind, leads-in, none-cold, cold-rows}
+use Rattle.candidate_order.proofs.KindLemmas.{by_kind, leads-in}
 use Rattle.candidate_order.proofs.next.first_candidate.Goals as goal
-
-pub returns-then-all_cold : goal.returns-then-all_cold
-returns-then-all_cold g c =
-    let case = c.args.case.now in
-    let lists = c.args.book.now.lists in
-    let rows = c.as_slice-rows.result.now in
-    let brokers_are : map (λ (r : Row). r.id) rows ≡ ids_of case.brokers = rw c.as_slice-rows.ensures.value c.requires.scan.brokers_are in
-    let heats_are : All (λ (r : Row). r.heat ≡ g.G.Goal.heat_at c.args.goal.now case lists r.id) rows = rw c.as_slice-rows.ensures.value (λ k d l. (c.requires.scan.rows_are k d l).heat_is) in
-    none-cold case lists c.requires.belongs.lists_belong (g.G.Goal.meaning c.args.goal.now case) (g.G.Goal.heat_at c.args.goal.now case lists)
-    (g.met.G.Goal.cold_pairs c.args.goal.now case lists c.requires.made_goal c.brokers-brokers.ensures.case c.requires.belongs.lists_belong)
-    (cold-rows (λ (r : Row). r.id) (λ (r : Row). r.heat) rows case (g.G.Goal.heat_at c.args.goal.now case lists) brokers_are heats_are (c.if-all_cold.ensures refl))
-    (map (λ x. g.G.Goal.meaning x case) c.args.earlier.now)
 
 pub returns-in-Some : goal.returns-in-Some
 returns-in-Some g c =

@@ -11,7 +11,7 @@ returns-then-not-stirs g c =
     let case = c.args.case.now in
     let lists = c.args.book.now.lists in
     let p = c.args.part in
-    rw (← c.list.ensures, ← c.if-not-is_first.ensures)
+    rw (← c.list.ensures, ← c.if-not-leads.ensures)
     (All-map (λ x. Step case (map (λ x. g.G.Goal.meaning x case) c.args.earlier.now) (g.G.Goal.meaning c.args.goal.now case) lists x → ⊥) (λ (y : Broker). Lead p y.id) case.brokers
     (λ k y l s. (g.met.G.Goal.still_parts c.args.goal.now case lists c.requires.made_goal c.brokers-brokers.ensures.case c.requires.belongs.lists_belong).none
     (Lead p (get_or case.brokers k y).id) (fits-legal case lists (Lead p (get_or case.brokers k y).id) s.legal) (sym c.if-not-stirs.ensures) s.lessens))

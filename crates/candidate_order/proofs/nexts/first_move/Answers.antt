@@ -31,4 +31,4 @@ returns-then-weighs_nothing g c =
     (g.met.G.Goal.cold_pairs c.args.goal.now case lists c.requires.made_goal c.brokers-brokers.ensures.case c.requires.belongs.lists_belong)
     (g.met.G.Goal.idle_trades c.args.goal.now case lists c.requires.made_goal c.brokers-brokers.ensures.case c.requires.belongs.lists_belong)
     p a b (fits-legal case lists (Move p a b) s.legal)
-    (rw (← c.list.ensures, ← c.is_first-first.ensures, ← c.weight-own.ensures) (nothing-helps c.weight-own.result (hot a) (hot b) (sym c.if-weighs_nothing.ensures))) s.lessens)
+    (rw (← c.list.ensures, ← c.leads-first.ensures, ← c.weight-own.ensures) (nothing-helps c.weight-own.result (hot a) (hot b) (sym c.if-weighs_nothing.ensures))) s.lessens)

@@ -1,5 +1,5 @@
 use Rattle.std.proofs.Common.{◌≡◌, ℕ, ◌∙◌, map, arith}
-use Rattle.goal_terms.specs.PerBroker.{ids_of}
+use Rattle.plan_terms.specs.Cluster.{ids_of}
 use Rattle.std.proofs.lemmas.List.{take_all}
 use Rattle.std.proofs.lemmas.List.Elements.{All-more}
 use Rattle.plan_terms.specs.Trace.{Step}
@@ -15,7 +15,7 @@ row-replicas-requires g c =
     omega (arith, c.loop-k-test.true, order-length c.args.case.now c.args.book.now.lists c.args.order.now (λ (r : Row). r.id) c.as_slice-rows.result.now c.requires.order (rw c.as_slice-rows.ensures.value c.requires.scan.brokers_are))
 
 pub first_of-found-requires-clause-within : goal.first_of-found-requires-clause-within
-first_of-found-requires-clause-within g c = λ k d l.
+first_of-found-requires-clause-within g c = λ _ _ k d l.
     let rows_are : map (λ (r : Row). r.id) c.as_slice-rows.result.now ≡ ids_of c.args.case.now.brokers = rw c.as_slice-rows.ensures.value c.requires.scan.brokers_are in
     let e = c.row-replicas.ensures ∙ order-row c.args.case.now c.args.book.now.lists c.args.order.now (λ (r : Row). r.id) c.as_slice-rows.result.now c.loop-k.k c.index-rows-k.result c.requires.order rows_are c.loop-k-test.true c.index-rows-k.is in
     let within = rw (← e) at (replicas_of-within c.args.case.now c.args.book.now.lists c.index-rows-k.result.id) in

@@ -1,5 +1,5 @@
 use Rattle.std.proofs.Common.{◌≡◌, ℕ, Some, None, ◌∙◌, ap}
-use Rattle.goal_terms.specs.PerBroker.{id_at}
+use Rattle.plan_terms.specs.Cluster.{id_at}
 use Rattle.candidate_order.proofs.TurnLemmas.{known-place}
 use Rattle.candidate_order.proofs.order.broker_place.Goals as goal
 

@@ -1,6 +1,6 @@
 use Rattle.std.proofs.Common.{◌≡◌, ℕ, false, map, get_or, sym, refl, ◌∙◌}
 use Rattle.std.proofs.lemmas.Bool.{false≢true}
-use Rattle.plan_terms.specs.Cluster.{some_broker}
+use Rattle.plan_terms.specs.Cluster.{some_broker, ids_of}
 use Rattle.plan_terms.specs.States.{is_new}
 use Rattle.std.specs.Prelude.{Bool}
 use Rattle.std.specs.List.{filter}
@@ -11,7 +11,6 @@ use Rattle.plan_terms.specs.declared.actions.Action.{Action}
 use Rattle.plan_terms.specs.declared.actions.Action.TheVariants.{Move}
 use Rattle.plan_terms.specs.declared.cluster.Broker.{Broker}
 use Rattle.goal_terms.specs.Pairs.{taker}
-use Rattle.goal_terms.specs.PerBroker.{ids_of}
 use Rattle.candidate_order.specs.Looks.{is_below}
 use Rattle.candidate_order.specs.CandidateList.{moves_of_replica}
 use Rattle.candidate_order.specs.declared.kept.Row.{Row}

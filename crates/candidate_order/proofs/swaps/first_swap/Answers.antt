@@ -1,5 +1,5 @@
 use Rattle.std.proofs.Common.{◌≡◌, ℕ, ◌∙◌, map, arith, get_or, refl}
-use Rattle.goal_terms.specs.PerBroker.{ids_of}
+use Rattle.plan_terms.specs.Cluster.{ids_of}
 use Rattle.std.proofs.lemmas.List.{take_all}
 use Rattle.std.proofs.lemmas.List.Elements.{All-more, All-map}
 use Rattle.plan_terms.specs.Trace.{Step}

@@ -24,5 +24,5 @@ returns-then-not-may_swap g c =
           (g.met.G.Goal.cold_pairs c.args.goal.now case lists c.requires.made_goal c.brokers-brokers.ensures.case c.requires.belongs.lists_belong)
           (g.met.G.Goal.idle_trades c.args.goal.now case lists c.requires.made_goal c.brokers-brokers.ensures.case c.requires.belongs.lists_belong)
           p a q b (fits-legal case lists (Swap p a q b) s.legal)
-          (rw (← c.requires.own, ← c.requires.source.heat_is, ← c.requires.target.heat_is, ← c.list.ensures, ← c.is_first-first.ensures, ← c.weight-back.ensures) (sym c.if-not-may_swap.ensures)) s.lessens),
+          (rw (← c.requires.own, ← c.requires.source.heat_is, ← c.requires.target.heat_is, ← c.list.ensures, ← c.leads-first.ensures, ← c.weight-back.ensures) (sym c.if-not-may_swap.ensures)) s.lessens),
     )

@@ -4,13 +4,13 @@ use Rattle.cc_program.proofs.Traces.{bad-other}
 use Rattle.cc_program.proofs.checks.judge.Goals as goal
 
 pub returns-in-Good : goal.returns-in-Good
-returns-in-Good c = record {
+returns-in-Good g c = record {
   good = record { trace = c.in-Ok.trace; read = c.in-Ok.ensures.ok; good = rw c.in-Good.is at c.in_ok-check.ensures };
   spelled = c.in_ok-from_slice-in-Good.ensures.items;
 }
 
 pub returns : goal.returns
-returns c =
+returns g c =
     let judged = rw c.in-Fault.is at c.in_ok-check.ensures in
     record {
       bad = bad-other (cluster_lists c.args.loaded.now) c.args.goals.now c.args.bytes.now c.in-Ok.trace c.in-Ok.ensures.ok judged.1;

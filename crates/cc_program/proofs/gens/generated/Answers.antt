@@ -6,7 +6,7 @@ use Rattle.cc_program.proofs.Made.{summary_made}
 use Rattle.cc_program.proofs.gens.generated.Goals as goal
 
 pub returns : goal.returns
-returns c =
+returns g c =
     let p = c.args.planning.now in
     let r = c.args.recipe.now in
     rw c.if-whole.false

@@ -1,5 +1,5 @@
 use Rattle.std.proofs.Common.{◌∙◌}
-use Rattle.executor_core.proofs.Launched.{can_launch, begun}
+use Rattle.executor_core.proofs.Begun.{can_launch, begun}
 use Rattle.executor_core.proofs.alone.launched.Goals as goal
 
 pub start-requires-clause-can : goal.start-requires-clause-can

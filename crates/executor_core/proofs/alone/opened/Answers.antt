@@ -1,5 +1,5 @@
 use Rattle.executor_core.proofs.Brokers.{ids_once, members_known, lost_known}
-use Rattle.executor_core.proofs.Launched.{few_chunks}
+use Rattle.executor_core.proofs.Begun.{few_chunks}
 use Rattle.executor_core.proofs.alone.opened.Goals as goal
 
 pub new-requires-clause-few : goal.new-requires-clause-few

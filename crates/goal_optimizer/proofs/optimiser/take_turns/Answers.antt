@@ -14,7 +14,7 @@ use Rattle.goal_optimizer.proofs.optimiser.take_turns.Goals as goal
 use Rattle.goal_optimizer.proofs.optimiser.take_turns.Goals.{else-is_hard-via-then-is_hard+else-left-gt0, else-is_hard-via-else-is_hard}
 
 pub loop-place-init : goal.loop-place-init
-loop-place-init c = record {
+loop-place-init g c = record {
   turns_are = rw c.new-turns.ensures.items (Turns-nil _ _ _);
   goals_are = rw c.new-turns.ensures.items refl;
   book_is = rw c.new-turns.ensures.items (ap (λ (b : Book). b.lists) c.in_ok-book.ensures);
@@ -25,32 +25,32 @@ loop-place-init c = record {
 }
 
 pub bounds-goals-place : goal.bounds-goals-place
-bounds-goals-place c =
+bounds-goals-place g c =
     let same = same_length (λ g. any_meaning g c.args.case.now) (λ k. meaning_of k c.args.case.now) c.args.goals.now c.args.kinds.now c.requires.meanings in
     omega (arith, same, c.loop-place-test.true)
 
 pub slice_bounds-take_turn-end : goal.slice_bounds-take_turn-end
-slice_bounds-take_turn-end c =
+slice_bounds-take_turn-end g c =
     let same = same_length (λ g. any_meaning g c.args.case.now) (λ k. meaning_of k c.args.case.now) c.args.goals.now c.args.kinds.now c.requires.meanings in
     sym (length-take-le c.loop-place.place c.args.goals.now (omega (arith, same, c.loop-place.auto.place-end)))
 
 pub take_turn-requires-clause-made_goal : goal.take_turn-requires-clause-made_goal
-take_turn-requires-clause-made_goal c =
+take_turn-requires-clause-made_goal g c = λ _ _.
     let same = same_length (λ g. any_meaning g c.args.case.now) (λ k. meaning_of k c.args.case.now) c.args.goals.now c.args.kinds.now c.requires.meanings in
     rw (← c.index-goals-place.is) at (c.requires.made c.loop-place.place c.index-goals-place.result (omega (arith, same, c.loop-place-test.true)))
 
 pub measure-left-requires-clause-made : goal.measure-left-requires-clause-made
-measure-left-requires-clause-made c =
+measure-left-requires-clause-made g c =
     let same = same_length (λ g. any_meaning g c.args.case.now) (λ k. meaning_of k c.args.case.now) c.args.goals.now c.args.kinds.now c.requires.meanings in
     rw (← c.index-goals-place.is) at (c.requires.made c.loop-place.place c.index-goals-place.result (omega (arith, same, c.loop-place-test.true)))
 
 pub is_hard-requires : goal.is_hard-requires
-is_hard-requires c =
+is_hard-requires g c =
     let same = same_length (λ g. any_meaning g c.args.case.now) (λ k. meaning_of k c.args.case.now) c.args.goals.now c.args.kinds.now c.requires.meanings in
     rw (← c.index-goals-place.is) at (c.requires.made c.loop-place.place c.index-goals-place.result (omega (arith, same, c.loop-place-test.true)))
 
 pub returns-then-left-gt0-clause-outcome : goal.returns-then-left-gt0-clause-outcome
-returns-then-left-gt0-clause-outcome c =
+returns-then-left-gt0-clause-outcome g c =
     let front = same_front (λ g. any_meaning g c.args.case.now) (λ k. meaning_of k c.args.case.now) c.args.goals.now c.args.kinds.now c.requires.meanings c.loop-place.place in
     let here = same_at (λ g. any_meaning g c.args.case.now) (λ k. meaning_of k c.args.case.now) c.args.goals.now c.args.kinds.now c.requires.meanings
     c.loop-place.place c.index-goals-place.result Evacuation (get_or c.args.kinds.now c.loop-place.place Evacuation) c.loop-place-test.true c.index-goals-place.is refl in
@@ -62,7 +62,7 @@ returns-then-left-gt0-clause-outcome c =
     (rw (here, c.in_ok-actions.ensures.end, c.loop-place.invariant.book_is) at c.measure-left.ensures.value) c.if-left-gt0.true
 
 pub returns-then-left-gt0-clause-firsts : goal.returns-then-left-gt0-clause-firsts
-returns-then-left-gt0-clause-firsts c =
+returns-then-left-gt0-clause-firsts g c =
     let front = same_front (λ g. any_meaning g c.args.case.now) (λ k. meaning_of k c.args.case.now) c.args.goals.now c.args.kinds.now c.requires.meanings c.loop-place.place in
     let here = same_at (λ g. any_meaning g c.args.case.now) (λ k. meaning_of k c.args.case.now) c.args.goals.now c.args.kinds.now c.requires.meanings
     c.loop-place.place c.index-goals-place.result Evacuation (get_or c.args.kinds.now c.loop-place.place Evacuation) c.loop-place-test.true c.index-goals-place.is refl in
@@ -75,13 +75,13 @@ returns-then-left-gt0-clause-firsts c =
     }
 
 pub returns-clause-firsts : goal.returns-clause-firsts
-returns-clause-firsts c = record { each = c.loop-place.invariant.firsts }
+returns-clause-firsts g c = record { each = c.loop-place.invariant.firsts }
 
 zero_from : (n : ℕ) → n ≤ 0 → n ≡ 0
 zero_from n h = omega arith
 
 pub loop-place-preserved : goal.loop-place-preserved
-loop-place-preserved c =
+loop-place-preserved g c =
     let front = same_front (λ g. any_meaning g c.args.case.now) (λ k. meaning_of k c.args.case.now) c.args.goals.now c.args.kinds.now c.requires.meanings c.loop-place.place in
     let here = same_at (λ g. any_meaning g c.args.case.now) (λ k. meaning_of k c.args.case.now) c.args.goals.now c.args.kinds.now c.requires.meanings
     c.loop-place.place c.index-goals-place.result Evacuation (get_or c.args.kinds.now c.loop-place.place Evacuation) c.loop-place-test.true c.index-goals-place.is refl in
@@ -119,7 +119,7 @@ loop-place-preserved c =
     }
 
 pub returns-clause-outcome : goal.returns-clause-outcome
-returns-clause-outcome c =
+returns-clause-outcome g c =
     is_plan c.args.case.now c.args.start.now c.args.kinds.now c.loop-place.turns.items c.loop-place.place
     c.loop-place.invariant.goals_are c.loop-place.invariant.turns_are c.requires.belongs _ c.into_parts-case-2.result.1 refl refl c.loop-place-test.false
     (rw c.into_parts-case-2.ensures.lists c.loop-place.invariant.book_is) (rw c.into_parts-case-2.ensures.lists c.loop-place.invariant.belongs.lists_belong)

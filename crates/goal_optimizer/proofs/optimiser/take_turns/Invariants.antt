@@ -7,7 +7,7 @@ use Rattle.goal_optimizer.specs.Firsts.{FirstTurns}
 use Rattle.goal_optimizer.proofs.optimiser.take_turns.Given as goal
 
 abbrev pub invariant-loop-place : goal.invariant-loop-place
-invariant-loop-place l = record {
+invariant-loop-place g l = record {
   turns_are : Turns l.case [] (meanings l.case (take l.place l.kinds)) l.start (map (λ t. t.actions) l.turns.items);
   goals_are : map (λ t. t.goal) l.turns.items ≡ take l.place l.kinds;
   book_is : l.book.lists ≡ after_turns (map (λ t. t.actions) l.turns.items) l.start;

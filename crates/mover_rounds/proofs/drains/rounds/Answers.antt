@@ -1,11 +1,19 @@
-use Rattle.std.proofs.Common.{Ok, Err, ◌∙◌, arith}
+use Rattle.std.proofs.Common.{Ok, Err, ◌∙◌, arith, refl}
 use Rattle.core_terms.specs.declared.faults.StepFault.TheVariants.{AdminFault, Memory}
 use Rattle.mover_rounds.specs.Made.{copier_of}
 use Rattle.mover_rounds.specs.Owned.{known_by_owner}
-use Rattle.mover_rounds.specs.Since.{since_on}
-use Rattle.mover_rounds.proofs.Behind.{then_broken, then_idle, then_some}
+use Rattle.mover_rounds.specs.Since.{since_itself, since_on}
+use Rattle.mover_rounds.proofs.Behind.{no_round, then_broken, then_idle, then_some}
 use Rattle.mover_rounds.proofs.Ending.{cause_earlier}
 use Rattle.mover_rounds.proofs.drains.rounds.Goals as goal
+
+pub loop-number-init : goal.loop-number-init
+loop-number-init g c = record {
+  since = since_itself g.A.Admin.faults c.args.book.now;
+  did = no_round (known_by_owner c.args.book.now) (copier_of g.K.Copier.copies g.K.Copier.faults c.args.copier.now);
+  quiet = record { leases = c.requires.leases; tickets = c.requires.tickets };
+  kept = refl;
+}
 
 pub loop-number-preserved-in-Ok-Planned : goal.loop-number-preserved-in-Ok-Planned
 loop-number-preserved-in-Ok-Planned g c =

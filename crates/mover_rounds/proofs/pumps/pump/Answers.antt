@@ -1,10 +1,19 @@
-use Rattle.std.proofs.Common.{Ok, ◌∙◌, arith}
+use Rattle.std.proofs.Common.{Ok, ◌∙◌, arith, refl}
 use Rattle.core_terms.specs.declared.faults.StepFault.TheVariants.{AdminFault, Memory}
 use Rattle.mover_rounds.specs.Made.{copier_of}
 use Rattle.mover_rounds.specs.declared.round.Found.TheVariants.{Planned, Worked}
+use Rattle.mover_rounds.proofs.Behind.{none_done}
 use Rattle.mover_rounds.proofs.Ending.{cause_earlier}
 use Rattle.mover_rounds.proofs.Pumping.{planned_more, worked_more, pumped_idle, pumped_fault, pumped_memory}
 use Rattle.mover_rounds.proofs.pumps.pump.Goals as goal
+
+pub loop-done-init : goal.loop-done-init
+loop-done-init g c = record {
+  within = omega arith;
+  since = g.met.X.Asker.stays c.args.asker.now;
+  did = none_done (g.X.Asker.known c.args.asker.now) (copier_of g.K.Copier.copies g.K.Copier.faults c.args.copier.now);
+  kept = refl;
+}
 
 pub loop-done-preserved-in-Ok-Planned : goal.loop-done-preserved-in-Ok-Planned
 loop-done-preserved-in-Ok-Planned g c =

@@ -1,6 +1,6 @@
 use Rattle.std.proofs.Common.{◌∙◌, ℕ, List, get_or, sym, ap}
 use Rattle.goal_terms.proofs.ReadingLemmas.{quantity-load}
-use Rattle.goal_terms.specs.PerBroker.{id_at}
+use Rattle.plan_terms.specs.Cluster.{id_at}
 use Rattle.plan_terms.proofs.SameLemmas.{load-same}
 use Rattle.plan_terms.specs.Load.{load}
 use Rattle.broker_goals.proofs.amount.LoadAmount.amount.Goals as goal

@@ -1,6 +1,6 @@
 use Rattle.std.proofs.Common.{◌∙◌, ℕ, List, get_or, sym, ap}
 use Rattle.goal_terms.proofs.ReadingLemmas.{quantity-potential_out}
-use Rattle.goal_terms.specs.PerBroker.{id_at}
+use Rattle.plan_terms.specs.Cluster.{id_at}
 use Rattle.plan_terms.proofs.SameLemmas.{potential_out-same}
 use Rattle.plan_terms.specs.Load.{potential_out}
 use Rattle.broker_goals.proofs.amount.PotentialOutAmount.amount.Goals as goal

@@ -1,6 +1,6 @@
 use Rattle.std.proofs.Common.{◌∙◌, ℕ, List, get_or, sym, ap}
 use Rattle.goal_terms.proofs.ReadingLemmas.{quantity-replicas}
-use Rattle.goal_terms.specs.PerBroker.{id_at}
+use Rattle.plan_terms.specs.Cluster.{id_at}
 use Rattle.plan_terms.specs.Load.{count}
 use Rattle.broker_goals.proofs.amount.ReplicasAmount.amount.Goals as goal
 

@@ -1,9 +1,8 @@
 use Rattle.std.proofs.Common.{◌≡◌, [], get_or, set, sym, ap, ◌∙◌}
 use Rattle.std.proofs.lemmas.List.{get_or-set_other, get_or-set_same}
 use Rattle.plan_terms.proofs.EffectLemmas.{fits-Lead}
-use Rattle.plan_terms.specs.Cluster.{list_of, has, leads}
+use Rattle.plan_terms.specs.Cluster.{list_of, has, leads, id_at}
 use Rattle.plan_terms.specs.Effect.{exchange_first}
-use Rattle.goal_terms.specs.PerBroker.{id_at}
 use Rattle.goal_terms.specs.Quantity.{part_weight, load_weights}
 use Rattle.candidate_order.specs.CandidateList.{disk_of}
 use Rattle.candidate_order.proofs.Complete.{known-member}

@@ -3,9 +3,8 @@ use Rattle.std.proofs.lemmas.Bool.{ne_eqb}
 use Rattle.std.proofs.lemmas.List.{get_or-set_other, get_or-set_same}
 use Rattle.plan_terms.proofs.EffectLemmas.{fits-Move}
 use Rattle.plan_terms.proofs.MemberLemmas.{has-replaced}
-use Rattle.plan_terms.specs.Cluster.{list_of, has, leads}
+use Rattle.plan_terms.specs.Cluster.{list_of, has, leads, id_at}
 use Rattle.plan_terms.specs.Effect.{replace}
-use Rattle.goal_terms.specs.PerBroker.{id_at}
 use Rattle.goal_terms.specs.Quantity.{part_weight, load_weights}
 use Rattle.candidate_order.specs.CandidateList.{disk_of}
 use Rattle.candidate_order.proofs.Complete.{known-member}
@@ -54,7 +53,7 @@ returns c =
     let old : get_or c.lose.new.self j [] ≡ get_or c.args.self.now j [] = rw c.lose.ensures.others (get_or-set_other c.args.self.now i j (get_or c.lose.new.self i []) [] m) in
     let weight : c.disk-weight.result ≡ disk_of case later b p =
     c.disk-weight.ensures
-    ∙ ap (part_weight (load_weights 3) case.parts p) (c.is_first-first.ensures ∙ ap (λ l. leads l a) c.list.ensures ∙ sym (leads-new a b list fit.target) ∙ ap (λ l. leads l b) (sym then_is)) in
+    ∙ ap (part_weight (load_weights 3) case.parts p) (c.leads-first.ensures ∙ ap (λ l. leads l a) c.list.ensures ∙ sym (leads-new a b list fit.target) ∙ ap (λ l. leads l b) (sym then_is)) in
     order-later case lists later c.args.self.now c.gain.new.self a b i j (get_or c.lose.new.self i []) (get_or c.gain.new.self j []) c.requires.order
     c.broker_place-giver.ensures.within c.broker_place-taker.ensures.within c.broker_place-giver.ensures.only c.broker_place-taker.ensures.only c.broker_place-giver.ensures.id c.broker_place-taker.ensures.id
     (lose case lists later a p (same-set lists a p (replace a b list)) (ap (λ l. has l a) then_is ∙ has-replaced a b list (c.requires.belongs.lists_belong.lists_are p [] fit.within).once (ne_eqb b a n))

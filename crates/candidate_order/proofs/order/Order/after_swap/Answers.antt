@@ -1,8 +1,7 @@
 use Rattle.std.proofs.Common.{◌≡◌, [], get_or, set, sym, ap, ◌∙◌, inl}
 use Rattle.std.proofs.lemmas.List.{get_or-set_other, get_or-set_same}
 use Rattle.plan_terms.proofs.EffectLemmas.{fits-Swap}
-use Rattle.plan_terms.specs.Cluster.{list_of, has, leads}
-use Rattle.goal_terms.specs.PerBroker.{id_at}
+use Rattle.plan_terms.specs.Cluster.{list_of, has, leads, id_at}
 use Rattle.goal_terms.specs.Quantity.{part_weight, load_weights}
 use Rattle.candidate_order.specs.CandidateList.{disk_of}
 use Rattle.candidate_order.proofs.Complete.{known-member}
@@ -86,9 +85,9 @@ returns c =
     let row_b = row-of case lists c.args.self.now c.requires.order j b c.broker_place-taker.ensures.within c.broker_place-taker.ensures.id in
     let old : get_or c.trade.new.self j [] ≡ get_or c.args.self.now j [] = rw c.trade.ensures.others (get_or-set_other c.args.self.now i j (get_or c.trade.new.self i []) [] m) in
     let back : c.disk-back.result ≡ disk_of case turns.later a q =
-    c.disk-back.ensures ∙ ap (part_weight (load_weights 3) case.parts q) (c.is_first-other_first.ensures ∙ ap (λ l. leads l b) c.list-2.ensures ∙ sym turns.back_leads) in
+    c.disk-back.ensures ∙ ap (part_weight (load_weights 3) case.parts q) (c.leads-other_first.ensures ∙ ap (λ l. leads l b) c.list-2.ensures ∙ sym turns.back_leads) in
     let out : c.disk-out.result ≡ disk_of case turns.later b p =
-    c.disk-out.ensures ∙ ap (part_weight (load_weights 3) case.parts p) (c.is_first-first.ensures ∙ ap (λ l. leads l a) c.list.ensures ∙ sym turns.out_leads) in
+    c.disk-out.ensures ∙ ap (part_weight (load_weights 3) case.parts p) (c.leads-first.ensures ∙ ap (λ l. leads l a) c.list.ensures ∙ sym turns.out_leads) in
     rw (← turns.later_is)
     (order-later case lists turns.later c.args.self.now c.trade-2.new.self a b i j (get_or c.trade.new.self i []) (get_or c.trade-2.new.self j []) c.requires.order
     c.broker_place-giver.ensures.within c.broker_place-taker.ensures.within c.broker_place-giver.ensures.only c.broker_place-taker.ensures.only c.broker_place-giver.ensures.id c.broker_place-taker.ensures.id

@@ -2,7 +2,7 @@ use Rattle.std.proofs.Common.{◌≡◌, drop}
 use Rattle.std.specs.Prelude.{nat_lt}
 use Rattle.std.specs.List.{list_any}
 use Rattle.goal_terms.specs.Bands.{even, units_of}
-use Rattle.goal_terms.specs.PerBroker.{id_at}
+use Rattle.plan_terms.specs.Cluster.{id_at}
 use Rattle.goal_terms.specs.Quantity.{quantity, topic_weights}
 use Rattle.goal_terms.specs.Sides.{excess_with}
 use Rattle.distribution_goals.proofs.topic.TopicReplicaDistributionGoalGoal.heat.Given as goal

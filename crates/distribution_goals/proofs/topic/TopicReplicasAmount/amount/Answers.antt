@@ -1,6 +1,6 @@
 use Rattle.std.proofs.Common.{◌∙◌, ℕ, List, [], get_or, sym, ap}
 use Rattle.goal_terms.proofs.ReadingLemmas.{quantity-topic}
-use Rattle.goal_terms.specs.PerBroker.{id_at}
+use Rattle.plan_terms.specs.Cluster.{id_at}
 use Rattle.load_model.specs.Places.{topic_at}
 use Rattle.plan_terms.proofs.SameLemmas.{topic_count-same, topics_same}
 use Rattle.plan_terms.specs.Load.{topic_count}

@@ -1,7 +1,7 @@
 use Rattle.std.proofs.Common.{◌∙◌, ◌-◌, ℕ, List, [], get_or, sym, ap}
 use Rattle.goal_terms.proofs.LeastLemmas.{lack-at, quantity-led}
 use Rattle.goal_terms.specs.LeastLeaders.{floor_of, led_weights}
-use Rattle.goal_terms.specs.PerBroker.{id_at}
+use Rattle.plan_terms.specs.Cluster.{id_at}
 use Rattle.goal_terms.specs.Quantity.{quantity}
 use Rattle.leader_goals.proofs.least.MinTopicLeadersPerBrokerGoal.lack.Goals as goal
 

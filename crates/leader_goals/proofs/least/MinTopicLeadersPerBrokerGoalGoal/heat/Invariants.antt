@@ -2,7 +2,7 @@ use Rattle.std.proofs.Common.{◌≡◌, drop}
 use Rattle.std.specs.Prelude.{nat_lt}
 use Rattle.std.specs.List.{list_any}
 use Rattle.goal_terms.specs.LeastLeaders.{least_rule}
-use Rattle.goal_terms.specs.PerBroker.{id_at}
+use Rattle.plan_terms.specs.Cluster.{id_at}
 use Rattle.goal_terms.specs.PerTopic.{rule_weights}
 use Rattle.goal_terms.specs.Quantity.{quantity}
 use Rattle.goal_terms.specs.Sides.{excess_with}

@@ -1,5 +1,5 @@
 use Rattle.std.proofs.Common.{arith}
-use Rattle.load_model.specs.Places.{id_at}
+use Rattle.plan_terms.specs.Cluster.{id_at}
 use Rattle.load_model.proofs.Sums.{Short-assignment, amount-below, amount-few}
 use Rattle.load_model.proofs.book.LoadBook.amount.Goals as goal
 

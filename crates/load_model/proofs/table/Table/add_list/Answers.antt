@@ -1,6 +1,6 @@
 use Rattle.std.proofs.Common.{◌∙◌, arith, take}
 use Rattle.std.proofs.lemmas.List.{length-take}
-use Rattle.load_model.specs.Places.{id_at}
+use Rattle.plan_terms.specs.Cluster.{id_at}
 use Rattle.load_model.proofs.Sums.{list-below}
 use Rattle.load_model.proofs.Tabled.{IsChanged-more}
 use Rattle.load_model.proofs.table.Table.add_list.Goals as goal

@@ -1,7 +1,7 @@
 use Rattle.std.proofs.Common.{◌≡◌, ℕ, ◌<◌, [], take, length, get_or}
 use Rattle.plan_terms.specs.Load.{list_load}
 use Rattle.load_model.specs.Amounts.{lead_at, follow_at}
-use Rattle.load_model.specs.Places.{id_at}
+use Rattle.plan_terms.specs.Cluster.{id_at}
 use Rattle.load_model.specs.Tables.{IsChanged}
 use Rattle.load_model.proofs.table.Table.add_list.Given as goal
 

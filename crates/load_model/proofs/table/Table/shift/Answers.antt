@@ -1,5 +1,5 @@
 use Rattle.std.proofs.Common.{arith}
-use Rattle.load_model.specs.Places.{id_at}
+use Rattle.plan_terms.specs.Cluster.{id_at}
 use Rattle.load_model.proofs.Tabled.{put_on-below}
 use Rattle.load_model.proofs.table.Table.shift.Goals as goal
 

@@ -1,0 +1,93 @@
+"""What the built program answers for the rows in tools/rows, with a full output, without memory, and where a write fails."""
+import os
+import pathlib
+import resource
+import signal
+import subprocess
+import sys
+import tempfile
+import unittest
+
+ROOT = pathlib.Path(__file__).resolve().parents[2]
+sys.path.insert(0, str(ROOT / "tools"))
+from rows import goals, plans, sessions, summaries
+
+PROGRAM = ROOT / "crates/cc_program/out/cc_program"
+
+
+def out_of_room(size):
+    """The output may grow to so many bytes, and then each write fails."""
+    signal.signal(signal.SIGXFSZ, signal.SIG_IGN)
+    resource.setrlimit(resource.RLIMIT_FSIZE, (size, size))
+
+
+@unittest.skipUnless(PROGRAM.exists() or os.environ.get("CI"), "the program isn't built")
+class Rows(unittest.TestCase):
+    def setUp(self):
+        room = tempfile.TemporaryDirectory()
+        self.addCleanup(room.cleanup)
+        self.room = pathlib.Path(room.name)
+
+    def run_program(self, words, requests="", **more):
+        given = {"stdout": subprocess.PIPE, "input": requests.encode(), **more}
+        return subprocess.run([PROGRAM, *words.split()], cwd=self.room, stderr=subprocess.PIPE, timeout=60, **given)
+
+    def write(self, cluster, trace=""):
+        (self.room / "cluster").write_text(cluster)
+        (self.room / "trace").unlink(missing_ok=True)
+        if trace:
+            (self.room / "trace").write_text(trace)
+
+    def expect(self, row):
+        words, cluster, trace, status, out, line = row
+        self.write(cluster, trace)
+        with open("/dev/full", "wb") as full:
+            ran = self.run_program(words, **({"stdout": full} if status == 7 else {}))
+        self.assertEqual((ran.returncode, ran.stdout or b"", ran.stderr), (status, out.encode(), line.encode()))
+
+    def test_rows(self):
+        tables = [plans.ROWS, plans.TURNS, plans.TRACES, goals.GOALS, summaries.SUMMARIES]
+        for row in (row for table in tables for row in table):
+            with self.subTest(row=row):
+                self.expect(row)
+
+    def test_a_cluster_that_is_made_is_planned_for(self):
+        words = "gen 7 --brokers 6 --partitions 30 --file"
+        made = self.run_program(words)
+        self.assertEqual((made.returncode, made.stdout), (0, self.run_program(words).stdout))
+        self.write(made.stdout.decode())
+        planned = self.run_program("plan cluster --trace")
+        self.write(made.stdout.decode(), planned.stdout.decode())
+        checked = self.run_program("check cluster trace")
+        self.assertEqual((checked.returncode, checked.stdout), (0, b"good\n"))
+
+    def test_sessions(self):
+        for cluster, requests, status, replies, line in sessions.SESSIONS:
+            self.write(cluster)
+            ran = self.run_program("session cluster --movers 0", requests)
+            self.assertEqual((ran.returncode, ran.stdout, ran.stderr), (status, replies.encode(), line.encode()))
+
+    def test_an_input_that_fails(self):
+        self.write(sessions.TWO_BROKERS)
+        folder = os.open(self.room, os.O_RDONLY)
+        self.addCleanup(os.close, folder)
+        ran = subprocess.run([PROGRAM, "session", "cluster"], cwd=self.room, stdin=folder, capture_output=True, timeout=60)
+        self.assertEqual((ran.returncode, ran.stdout, ran.stderr), (6, b"", b"read fault\n"))
+
+    def test_an_output_that_fails(self):
+        self.write(sessions.TWO_BROKERS)
+        whole = sessions.SESSIONS[1][3].encode()
+        starts = [at for at in range(len(whole)) if whole.startswith(b"HTTP/1.1 ", at)]
+        for size in [*starts, len(whole) - 1]:
+            with open(self.room / "out", "wb") as out:
+                ran = self.run_program("session cluster --movers 0", sessions.MOVES, stdout=out, preexec_fn=lambda: out_of_room(size))
+            self.assertEqual((ran.returncode, ran.stderr), (7, b"write fault\n"))
+            self.assertTrue(whole.startswith((self.room / "out").read_bytes()))
+
+    def test_a_file_without_memory_for_it(self):
+        with open(self.room / "cluster", "wb") as file:
+            file.truncate(64 << 20)
+        most = 48 << 20
+        limit = lambda: resource.setrlimit(resource.RLIMIT_AS, (most, most))
+        ran = self.run_program(plans.PLAN, preexec_fn=limit)
+        self.assertEqual((ran.returncode, ran.stdout, ran.stderr), (9, b"", b"want of memory\n"))
