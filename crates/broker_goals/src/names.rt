@@ -1,4 +1,4 @@
-// Types that name a resource, a threshold, or whether a goal is hard.
+// Types that name a resource, a threshold, whether a use may be too low, or whether a goal is hard.
 ghost use Rattle.plan_terms.specs.Fraction.{Fraction};
 ghost use Rattle.plan_terms.specs.declared.cluster.Options.{Options};
 ghost use Rattle.std.proofs.Common.{arith};
@@ -91,6 +91,32 @@ impl Balance for LeaderBalance {
     fn ratio(options: &Options) -> Ratio {
         options.leader_balance
     }
+}
+
+/// Whether a use may be too low.
+pub trait Floor {
+    ghost HAS_FLOOR: { Bool };
+
+    /// Whether it may.
+    const HAS_FLOOR: bool;
+}
+
+/// It may.
+pub struct Floored;
+
+impl Floor for Floored {
+    ghost HAS_FLOOR = { true };
+
+    const HAS_FLOOR: bool = true;
+}
+
+/// It may not.
+pub struct Floorless;
+
+impl Floor for Floorless {
+    ghost HAS_FLOOR = { false };
+
+    const HAS_FLOOR: bool = false;
 }
 
 /// Whether a plan fails where a goal stays broken.

@@ -1,6 +1,7 @@
 // Bounds by what all brokers use of a resource.
 ghost use Rattle.broker_goals.specs.Made.{IsThreshold};
-ghost use Rattle.goal_terms.specs.Bands.{whole_cap, low_of, near_use, below_use};
+ghost use Rattle.broker_goals.specs.Uses.{use_bounds};
+ghost use Rattle.goal_terms.specs.Bands.{whole_cap, low_of};
 ghost use Rattle.goal_terms.specs.Goals.{ratio_at};
 ghost use Rattle.goal_terms.specs.Limits.{SmallCap, SmallBounds};
 ghost use Rattle.goal_terms.specs.PerBroker.{unit_brokers};
@@ -9,7 +10,7 @@ ghost use Rattle.std.specs.List.{sum_by};
 ghost use Rattle.std.specs.Prelude.{◌≡◌, ◌-◌, ◌*◌, ◌<◌, ◌≤◌, ◌^◌, slice_index};
 
 use crate::band::{Band, Edges, NewBand};
-use crate::names::Resource;
+use crate::names::{Floor, Floored, Floorless, Resource};
 use crate::shares::low_num;
 use load_model::Case;
 use plan_terms::{Broker, Options, Ratio};
@@ -57,19 +58,25 @@ fn part_of(num: u32, all: u128, cap: u64) -> u128
     u128::from(num) * all * u128::from(cap)
 }
 
-/// A use of a resource near that of all brokers together.
+/// A use of a resource not far from that of all brokers together.
 #[derive(Drop)]
-pub struct NearUse<R> {
+pub struct Use<R, F> {
     ratio: Ratio,
     whole: u64,
-    resource: PhantomData<R>,
+    names: PhantomData<(R, F)>,
 }
 
-impl<R: Resource> Band for NearUse<R> {
-    ghost use Rattle.goal_terms.proofs.BandLemmas.{near_use-small};
+/// A use near that of all brokers together.
+pub type NearUse<R> = Use<R, Floored>;
+
+/// A use not far above that of all brokers together.
+pub type BelowUse<R> = Use<R, Floorless>;
+
+impl<R: Resource, F: Floor> Band for Use<R, F> {
+    ghost use Rattle.broker_goals.specs.Uses.{use_bounds-small};
     ghost use Rattle.goal_terms.proofs.CaseLemmas.{Limits-case};
 
-    ghost bounds = { λ _ c. near_use (ratio_at c.options.balance R.resource) R.resource
+    ghost bounds = { λ _ c. use_bounds F.HAS_FLOOR (ratio_at c.options.balance R.resource) R.resource
         (whole_cap R.resource c) };
 
     ghost made_for = { λ b c. IsThreshold b.ratio (ratio_at c.options.balance R.resource)
@@ -78,64 +85,28 @@ impl<R: Resource> Band for NearUse<R> {
     fn edges(&self, case: &Case, all: u128, broker: &Broker) -> Edges {
         let place = R::place();
         let cap = broker.cap[place];
+        let lower = if F::HAS_FLOOR {
+            part_of(low_num(self.ratio), all, cap)
+        } else {
+            0
+        };
         Edges {
             scale: use_scale(case, self.whole, self.ratio, place),
             upper: part_of(self.ratio.num(), all, cap),
-            lower: part_of(low_num(self.ratio), all, cap),
+            lower,
         }
     }
 
-    ghost small_bounds = { λ _ c made is_case. near_use-small
+    ghost small_bounds = { λ _ c made is_case. use_bounds-small F.HAS_FLOOR
         (ratio_at c.options.balance R.resource) R.resource c made.0.small (Limits-case c is_case) };
 }
 
-impl<R: Resource> NewBand for NearUse<R> {
+impl<R: Resource, F: Floor> NewBand for Use<R, F> {
     fn new(case: &Case) -> Self {
-        NearUse {
+        Use {
             ratio: balance_at(case.options(), R::place()),
             whole: whole_cap_of(case, R::place()),
-            resource: PhantomData,
-        }
-    }
-}
-
-/// A use of a resource not far above that of all brokers together.
-#[derive(Drop)]
-pub struct BelowUse<R> {
-    ratio: Ratio,
-    whole: u64,
-    resource: PhantomData<R>,
-}
-
-impl<R: Resource> Band for BelowUse<R> {
-    ghost use Rattle.goal_terms.proofs.BandLemmas.{below_use-small};
-    ghost use Rattle.goal_terms.proofs.CaseLemmas.{Limits-case};
-
-    ghost bounds = { λ _ c. below_use (ratio_at c.options.balance R.resource) R.resource
-        (whole_cap R.resource c) };
-
-    ghost made_for = { λ b c. IsThreshold b.ratio (ratio_at c.options.balance R.resource)
-        × (b.whole ≡ whole_cap R.resource c) };
-
-    fn edges(&self, case: &Case, all: u128, broker: &Broker) -> Edges {
-        let place = R::place();
-        Edges {
-            scale: use_scale(case, self.whole, self.ratio, place),
-            upper: part_of(self.ratio.num(), all, broker.cap[place]),
-            lower: 0,
-        }
-    }
-
-    ghost small_bounds = { λ _ c made is_case. below_use-small
-        (ratio_at c.options.balance R.resource) R.resource c made.0.small (Limits-case c is_case) };
-}
-
-impl<R: Resource> NewBand for BelowUse<R> {
-    fn new(case: &Case) -> Self {
-        BelowUse {
-            ratio: balance_at(case.options(), R::place()),
-            whole: whole_cap_of(case, R::place()),
-            resource: PhantomData,
+            names: PhantomData,
         }
     }
 }

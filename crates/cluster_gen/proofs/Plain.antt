@@ -3,7 +3,8 @@ use Rattle.std.proofs.Common.{◌≡◌, ℕ, ◌+◌, ◌≤◌, List, [], ◌�
 use Rattle.serde_json.specs.Data.{Data, array, depth}
 use Rattle.serde_json.specs.View.{items_of}
 use Rattle.serde_json.specs.Written.{has_float}
-use Rattle.cluster_gen.specs.Clusters.{number_data, numbers_below, replicas_of, broker_data, partition_data, cluster_data}
+use Rattle.plain_json.specs.Numbers.{number_data}
+use Rattle.cluster_gen.specs.Clusters.{numbers_below, replicas_of, broker_data, partition_data, cluster_data}
 
 -- no float, and at most so many levels
 pub record IsPlain (levels : ℕ) (d : Data) : Type 0 where

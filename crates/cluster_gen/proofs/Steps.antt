@@ -5,7 +5,8 @@ use Rattle.std.proofs.lemmas.List.FromFn.{map-range_with_len_more}
 use Rattle.serde_json.specs.Data.{Data}
 use Rattle.serde_json.specs.View.{view}
 use Rattle.serde_json.specs.declared.value.Value.{Value}
-use Rattle.cluster_gen.specs.Clusters.{number_data, numbers_below}
+use Rattle.plain_json.specs.Numbers.{number_data}
+use Rattle.cluster_gen.specs.Clusters.{numbers_below}
 
 pub values_more : (f : ℕ → Data) (n : ℕ) (values : List Value) (value : Value) → map view values ≡ map f (numbers_below n) → view value ≡ f n
     → map view (values ++ value ∷ []) ≡ map f (numbers_below (n + 1))

@@ -1,15 +1,12 @@
 -- The cluster file that is made from a seed, for b brokers and p partitions.
 use Rattle.std.specs.Prelude.{ℕ, ◌+◌, ◌*◌, ◌/◌, ◌%◌, min, List, [], ◌∷◌, ◌++◌, map, codes, decimal}
 use Rattle.std.specs.List.{range_with_len}
-use Rattle.serde_json.specs.Data.{Data, number, unsigned, string, array, object, member, no_members}
+use Rattle.serde_json.specs.Data.{Data, string, array, object, member, no_members}
 use Rattle.serde_json.specs.View.{items_of}
 use Rattle.serde_json.specs.Written.{compact_text}
+use Rattle.plain_json.specs.Numbers.{number_data, numbers_data}
 use Rattle.cluster_gen.specs.declared.loads.Loads.{Loads}
 use Rattle.cluster_gen.specs.Draws.{draw}
-
--- a whole number
-abbrev pub number_data : ℕ → Data
-number_data n = number (unsigned n)
 
 -- the numbers below n
 abbrev pub numbers_below : ℕ → List ℕ
@@ -70,7 +67,7 @@ load_data loads = object (member (codes "follower") (follower_data loads) (membe
 abbrev pub partition_data : ℕ → ℕ → ℕ → Data
 partition_data seed b i = object (member (codes "load") (load_data (loads_of seed i))
     (member (codes "partition") (number_data (i / 50))
-    (member (codes "replicas") (array (items_of (map number_data (replicas_of seed b i))))
+    (member (codes "replicas") (numbers_data (replicas_of seed b i))
     (member (codes "topic") (string (codes "t" ++ decimal (i % 50))) no_members))))
 
 -- the whole: the capacities, the brokers, the partitions, and version 1 of the form

@@ -3,7 +3,8 @@ ghost use Rattle.std.specs.Prelude.{◌≡◌, ℕ, ◌+◌, ◌*◌, ◌%◌, �
 ghost use Rattle.serde_json.specs.Data.{array};
 ghost use Rattle.serde_json.specs.View.{view, items_of};
 ghost use Rattle.cluster_gen.specs.Draws.{state_after};
-ghost use Rattle.cluster_gen.specs.Clusters.{number_data, numbers_below, in_a_row, loads_of, load_data, partition_data};
+ghost use Rattle.plain_json.specs.Numbers.{number_data};
+ghost use Rattle.cluster_gen.specs.Clusters.{numbers_below, in_a_row, loads_of, load_data, partition_data};
 
 use crate::draws::Draws;
 use crate::loads::Loads;

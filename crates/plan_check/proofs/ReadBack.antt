@@ -13,7 +13,8 @@ use Rattle.goal_set.specs.declared.kinds.GoalKind.TheVariants as kind
 use Rattle.goal_set.specs.declared.trace.Turned.{Turned}
 use Rattle.plan_check.specs.Meaning.{action_at, action_items, actions_at, all_of, goal_at, number_at, result_at, result_named, trace_at, turn_at, turns_at, version_at}
 use Rattle.plan_check.specs.Reading.{IsReadBack}
-use Rattle.plan_check.specs.Text.{TraceView, action_data, number_data, result_name, trace_data, turn_data}
+use Rattle.plain_json.specs.Numbers.{number_data}
+use Rattle.plan_check.specs.Text.{TraceView, action_data, result_name, trace_data, turn_data}
 
 number_at-number_data : (n : ℕ) → n < 2 ^ 32 → number_at (number_data n) ≡ Some n
 unfolding number_at

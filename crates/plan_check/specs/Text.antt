@@ -1,8 +1,9 @@
 -- The text of a trace.
 use Rattle.std.specs.Prelude.{ℕ, Bool, List, [], ◌∷◌, codes, map, if◌then◌else◌}
-use Rattle.serde_json.specs.Data.{Data, number, unsigned, string, array, object, member, no_members}
+use Rattle.serde_json.specs.Data.{Data, string, array, object, member, no_members}
 use Rattle.serde_json.specs.View.{items_of}
 use Rattle.serde_json.specs.Written.{compact_text}
+use Rattle.plain_json.specs.Numbers.{number_data}
 use Rattle.plan_terms.specs.declared.actions.Action.{Action}
 use Rattle.plan_terms.specs.declared.actions.Action.TheVariants.{Move, Lead, Swap}
 use Rattle.goal_set.specs.Kinds.{name_of}
@@ -16,9 +17,6 @@ pub record TraceView : Type 0 where
 
 abbrev pub trace_view : Trace → TraceView
 trace_view trace = record { turns = trace.turns.items; planned = trace.planned }
-
-abbrev pub number_data : ℕ → Data
-number_data n = number (unsigned n)
 
 -- an action: its name, and its partitions and brokers
 abbrev pub action_data : Action → Data

@@ -3,30 +3,23 @@ use Rattle.std.proofs.Common.{◌≡◌, ℕ, List, [], ◌∷◌, ◌++◌, map
 use Rattle.serde_json.specs.Data.{Data, depth, items_depth}
 use Rattle.serde_json.specs.View.{items_of}
 use Rattle.serde_json.specs.Written.{has_float, items_have_float}
+use Rattle.plain_json.proofs.Items.{whole_numbers, flat_numbers}
 use Rattle.plan_terms.specs.declared.cluster.Part.{Part}
 use Rattle.plan_terms.specs.declared.lists.Proposal.{Proposal}
-use Rattle.proposal_set.specs.Text.{number_data, entry_of, entry_at, proposal_entries, list_entries, reassignment}
+use Rattle.proposal_set.specs.Text.{entry_of, entry_at, proposal_entries, list_entries, reassignment}
 
 -- no float, and at most two levels
 pub record IsPlain (entries : List Data) : Type 0 where
   pub no_float : items_have_float (items_of entries) ≡ false
   pub flat : items_depth (items_of entries) ≤ 2
 
-numbers_plain : (ns : List ℕ) → items_have_float (items_of (map number_data ns)) ≡ false
-numbers_plain [] = refl
-numbers_plain (n ∷ ns) = numbers_plain ns
-
-numbers_flat : (ns : List ℕ) → items_depth (items_of (map number_data ns)) ≡ 0
-numbers_flat [] = refl
-numbers_flat (n ∷ ns) = omega (arith, numbers_flat ns)
-
 IsPlain-nil : IsPlain []
 IsPlain-nil = record { no_float = refl; flat = omega arith }
 
 IsPlain-cons : (part : Part) (list : List ℕ) (entries : List Data) → IsPlain entries → IsPlain (entry_of part list ∷ entries)
 IsPlain-cons part list entries h = record {
-  no_float = rw (ap (λ b. b || false) (numbers_plain list)) h.no_float;
-  flat = omega (arith, numbers_flat list, h.flat);
+  no_float = rw (ap (λ b. b || false) (whole_numbers list)) h.no_float;
+  flat = omega (arith, flat_numbers list, h.flat);
 }
 
 entry_at-then : (parts : List Part) (p : ℕ) (list : List ℕ) (entries : List Data) → IsPlain entries → IsPlain (entry_at parts p list ++ entries)

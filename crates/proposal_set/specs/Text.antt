@@ -1,20 +1,17 @@
 -- The reassignment JSON that Kafka's tools read: which list each partition is to have.
-use Rattle.std.specs.Prelude.{ℕ, List, [], ◌∷◌, map, codes, zero, suc}
+use Rattle.std.specs.Prelude.{ℕ, List, [], ◌∷◌, codes, zero, suc}
 use Rattle.std.specs.List.{flat_map}
-use Rattle.serde_json.specs.Data.{Data, number, unsigned, string, array, object, member, no_members}
+use Rattle.serde_json.specs.Data.{Data, string, array, object, member, no_members}
 use Rattle.serde_json.specs.View.{items_of}
 use Rattle.serde_json.specs.Written.{compact_text}
+use Rattle.plain_json.specs.Numbers.{number_data, numbers_data}
 use Rattle.plan_terms.specs.declared.cluster.Part.{Part}
 use Rattle.plan_terms.specs.declared.lists.Proposal.{Proposal}
-
--- a whole number
-abbrev pub number_data : ℕ → Data
-number_data n = number (unsigned n)
 
 -- a partition, by its topic and its number there, and the list that it is to have
 abbrev pub entry_of : Part → List ℕ → Data
 entry_of part replicas = object (member (codes "partition") (number_data part.number)
-    (member (codes "replicas") (array (items_of (map number_data replicas)))
+    (member (codes "replicas") (numbers_data replicas)
     (member (codes "topic") (string part.topic) no_members)))
 
 -- the entry of the partition at place p, or none past the last partition

@@ -4,22 +4,13 @@ ghost use Rattle.std.specs.List.{All};
 ghost use Rattle.serde_json.specs.Data.{array};
 ghost use Rattle.serde_json.specs.Read.{read};
 ghost use Rattle.serde_json.specs.View.{view, items_of};
-ghost use Rattle.proposal_set.specs.Text.{number_data, entry_of, proposal_entries, list_entries, reassignment, reassignment_text, assignment_text};
+ghost use Rattle.proposal_set.specs.Text.{entry_of, proposal_entries, list_entries, reassignment, reassignment_text, assignment_text};
 
 use load_model::Case;
+use plain_json::numbers_value;
 use plan_terms::{Memory, Part, Proposal, Replicas};
 use serde_json::{Value, json};
 use std::alloc::{AllocError, Global};
-
-fn numbers_value(alloc: Global, numbers: &[u32]) -> Result<Value, AllocError>
-    ensures { IfOk result (λ v. view v ≡ array (items_of (map number_data numbers.now))) }
-{
-    let mut list = Vec::new(alloc);
-    for number in numbers {
-        list.push(Value::from(*number))?;
-    }
-    Ok(Value::Array(list))
-}
 
 fn entry_value(alloc: Global, part: &Part, replicas: &[u32]) -> Result<Value, AllocError>
     ensures { IfOk result (λ v. view v ≡ entry_of part.now replicas.now) }

@@ -3,6 +3,7 @@ use Rattle.std.proofs.Common.{◌≡◌, ℕ, Bool, List, [], ◌∷◌, map, fa
 use Rattle.serde_json.specs.Data.{Data, depth, items_depth}
 use Rattle.serde_json.specs.View.{items_of}
 use Rattle.serde_json.specs.Written.{has_float, items_have_float}
+use Rattle.plain_json.proofs.Items.{whole_items, flat_items, whole_numbers, flat_numbers}
 use Rattle.plan_terms.specs.declared.settings.Caps.{Caps}
 use Rattle.goal_set.specs.declared.kinds.GoalKind.{GoalKind}
 use Rattle.exec_terms.specs.declared.replies.Stopped.{Stopped}
@@ -13,22 +14,8 @@ use Rattle.core_terms.specs.declared.shows.PartShown.{PartShown}
 use Rattle.core_terms.specs.declared.shows.Shown.{Shown}
 use Rattle.core_terms.specs.declared.shows.Shown.TheVariants as shown
 use Rattle.rest_replies.specs.Answers.{shown_data}
-use Rattle.rest_replies.specs.Bodies.{broker_data, caps_data, done_data, ended_data, error_data, failed_data, killed_data, number_data, open_data, part_data, proposal_data, pumped_data, sampled_data, stopped_data, task_data}
+use Rattle.rest_replies.specs.Bodies.{broker_data, caps_data, done_data, ended_data, error_data, failed_data, killed_data, open_data, part_data, proposal_data, pumped_data, sampled_data, stopped_data, task_data}
 use Rattle.rest_replies.specs.Plain.{IsPlain}
-
-whole_items : {X : Type 0} (f : X → Data) → ((x : X) → has_float (f x) ≡ false) → (xs : List X) → items_have_float (items_of (map f xs)) ≡ false
-whole_items f h [] = refl
-whole_items f h (x ∷ xs) = rw (h x) (whole_items f h xs)
-
-flat_items : {X : Type 0} (f : X → Data) (n : ℕ) → ((x : X) → depth (f x) ≤ n) → (xs : List X) → items_depth (items_of (map f xs)) ≤ n
-flat_items f n h [] = omega arith
-flat_items f n h (x ∷ xs) = omega (arith, h x, flat_items f n h xs)
-
-whole_numbers : (ns : List ℕ) → items_have_float (items_of (map number_data ns)) ≡ false
-whole_numbers = whole_items number_data (λ n. refl)
-
-flat_numbers : (ns : List ℕ) → items_depth (items_of (map number_data ns)) ≤ 0
-flat_numbers = flat_items number_data 0 (λ n. omega arith)
 
 whole_proposal : (p : Named) → has_float (proposal_data p) ≡ false
 whole_proposal p = rw (whole_numbers p.after, whole_numbers p.before) refl

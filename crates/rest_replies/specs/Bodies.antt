@@ -1,7 +1,8 @@
 -- The bodies of replies, as JSON: keys stand in the order of their bytes, and each body has `version` 1.
 use Rattle.std.specs.Prelude.{ℕ, min, Bool, true, List, map, codes, decimal}
-use Rattle.serde_json.specs.Data.{Data, boolean, number, unsigned, string, array, object, member, no_members, Members}
+use Rattle.serde_json.specs.Data.{Data, boolean, string, array, object, member, no_members, Members}
 use Rattle.serde_json.specs.View.{items_of}
+use Rattle.plain_json.specs.Numbers.{number_data, numbers_data}
 use Rattle.uuid.specs.Text.{hyphenated_text, lower}
 use Rattle.plan_terms.specs.declared.settings.Caps.{Caps}
 use Rattle.goal_set.specs.declared.kinds.GoalKind.{GoalKind}
@@ -17,14 +18,6 @@ use Rattle.core_terms.specs.declared.shows.ExecutorState.{ExecutorState}
 use Rattle.core_terms.specs.declared.shows.PartShown.{PartShown}
 use Rattle.core_terms.specs.declared.shows.TaskShown.{TaskShown}
 use Rattle.rest_replies.specs.Texts.{broker_state_text, endpoint_text, executor_state_text, task_status_text}
-
--- a whole number
-abbrev pub number_data : ℕ → Data
-number_data n = number (unsigned n)
-
--- whole numbers
-abbrev pub numbers_data : List ℕ → Data
-numbers_data ns = array (items_of (map number_data ns))
 
 -- a load. No cluster has one of 2^64 or more, which JSON doesn't take as a whole number: it would stand as the greatest below.
 abbrev pub load_data : ℕ → Data

@@ -2,28 +2,18 @@
 ghost use Rattle.std.specs.Prelude.{◌≡◌, map, IfOk};
 ghost use Rattle.serde_json.specs.Data.{array};
 ghost use Rattle.serde_json.specs.View.{items_of, view};
-ghost use Rattle.rest_replies.specs.Bodies.{caps_data, done_data, ended_data, error_data, failed_data, killed_data, number_data, numbers_data, open_data, proposal_data, proposals_data, pumped_data, sampled_data, stopped_data};
+ghost use Rattle.rest_replies.specs.Bodies.{caps_data, done_data, ended_data, error_data, failed_data, killed_data, open_data, proposal_data, proposals_data, pumped_data, sampled_data, stopped_data};
 
 use crate::texts::task_status_text;
 use core_terms::Named;
 use exec_terms::{Killed, Stopped};
 use goal_set::GoalKind;
+use plain_json::numbers_value;
 use plan_terms::{Caps, Memory};
 use serde_json::{Value, json};
 use std::alloc::Global;
 use user_tasks::{Status, id_text};
 use uuid::Uuid;
-
-/// Whole numbers.
-pub fn numbers_value(alloc: Global, numbers: &[u32]) -> Result<Value, Memory>
-    ensures { IfOk result (λ v. view v ≡ numbers_data numbers.now) }
-{
-    let mut list = Vec::new(alloc);
-    for number in numbers {
-        list.push(Value::from(*number))?;
-    }
-    Ok(Value::Array(list))
-}
 
 /// A refusal.
 pub fn error_value(alloc: Global, text: &str) -> Result<Value, Memory>

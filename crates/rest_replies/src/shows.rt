@@ -4,10 +4,10 @@ ghost use Rattle.serde_json.specs.View.{view};
 ghost use Rattle.rest_replies.specs.Answers.{shown_data};
 ghost use Rattle.rest_replies.specs.Bodies.{broker_data, cluster_data, executor_data, loads_data, monitor_data, part_data, state_data, task_data, tasks_data};
 
-use crate::bodies::numbers_value;
 use crate::texts::{broker_state_text, endpoint_text, executor_state_text, task_status_text};
 use core_terms::{BrokerShown, ExecutorState, PartShown, Shown, StateShown, TaskShown};
 use exec_terms::PhaseCounts;
+use plain_json::numbers_value;
 use plan_terms::Memory;
 use serde_json::{Value, json};
 use std::alloc::Global;

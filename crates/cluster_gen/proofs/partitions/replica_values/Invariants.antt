@@ -1,6 +1,7 @@
 use Rattle.std.proofs.Common.{◌≡◌, ◌+◌, ◌%◌, map}
 use Rattle.serde_json.specs.View.{view}
-use Rattle.cluster_gen.specs.Clusters.{number_data, numbers_below}
+use Rattle.plain_json.specs.Numbers.{number_data}
+use Rattle.cluster_gen.specs.Clusters.{numbers_below}
 use Rattle.cluster_gen.proofs.partitions.replica_values.Given as goal
 
 abbrev pub invariant-loop-place : goal.invariant-loop-place

@@ -1,7 +1,7 @@
 use Rattle.std.proofs.Common.{◌≡◌, map, take}
 use Rattle.serde_json.specs.View.{view}
-use Rattle.rest_replies.specs.Bodies.{number_data}
-use Rattle.rest_replies.proofs.bodies.numbers_value.Given as goal
+use Rattle.plain_json.specs.Numbers.{number_data}
+use Rattle.plain_json.proofs.numbers.numbers_value.Given as goal
 
 abbrev pub invariant-loop-number : goal.invariant-loop-number
 invariant-loop-number l = map view l.list.items ≡ map number_data (take l.number-index l.numbers)
