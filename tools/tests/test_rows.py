@@ -3,6 +3,7 @@ import os
 import pathlib
 import resource
 import signal
+import socket
 import subprocess
 import sys
 import tempfile
@@ -19,6 +20,15 @@ def out_of_room(size):
     """The output may grow to so many bytes, and then each write fails."""
     signal.signal(signal.SIGXFSZ, signal.SIG_IGN)
     resource.setrlimit(resource.RLIMIT_FSIZE, (size, size))
+
+
+def reset_after(text):
+    """A socket from which the text can be read, and then each read fails: its peer was closed with a byte that it had not read."""
+    peer, socket_of_text = socket.socketpair()
+    socket_of_text.sendall(b"-")
+    peer.sendall(text)
+    peer.close()
+    return socket_of_text
 
 
 @unittest.skipUnless(PROGRAM.exists() or os.environ.get("CI"), "the program isn't built")
@@ -73,6 +83,19 @@ class Rows(unittest.TestCase):
         self.addCleanup(os.close, folder)
         ran = subprocess.run([PROGRAM, "session", "cluster"], cwd=self.room, stdin=folder, capture_output=True, timeout=60)
         self.assertEqual((ran.returncode, ran.stdout, ran.stderr), (6, b"", b"read fault\n"))
+
+    def test_an_input_that_fails_later(self):
+        self.write(sessions.TWO_BROKERS)
+        requests = sessions.MOVES.encode()
+        replies = sessions.SESSIONS[1][3].encode()
+        ends = [at + 4 for at in range(len(requests)) if requests.startswith(b"\r\n\r\n", at)]
+        starts = [at for at in range(len(replies)) if replies.startswith(b"HTTP/1.1 ", at)] + [len(replies)]
+        self.assertEqual(len(starts), len(ends) + 1)
+        for read in [*ends, *(end - 1 for end in ends), 1]:
+            answered = replies[: starts[sum(end <= read for end in ends)]]
+            with reset_after(requests[:read]) as stdin:
+                ran = subprocess.run([PROGRAM, "session", "cluster", "--movers", "0"], cwd=self.room, stdin=stdin, capture_output=True, timeout=60)
+            self.assertEqual((ran.returncode, ran.stdout, ran.stderr), (6, answered, b"read fault\n"))
 
     def test_an_output_that_fails(self):
         self.write(sessions.TWO_BROKERS)
