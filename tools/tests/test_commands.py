@@ -9,7 +9,7 @@ ROOT = pathlib.Path(__file__).resolve().parents[2]
 sys.path.insert(0, str(ROOT / "tools/lib"))
 from commands import COMMANDS, ENDS, EXAMPLES, NAMES, OPERANDS, OPTIONS
 
-PROGRAM = ROOT / "crates/cc_program/out/cc_program"
+PROGRAM = ROOT / "crates/sumpharu/out/sumpharu"
 WORDS = ROOT / "crates/command_words/src"
 SOURCES = ROOT / "crates/cc_program/src"
 

@@ -22,7 +22,7 @@ HEADINGS = [
     "The promise",
     "Test it",
 ]
-PROGRAM = ROOT / "crates/cc_program/out/cc_program"
+PROGRAM = ROOT / "crates/sumpharu/out/sumpharu"
 
 
 def anchors(text):
@@ -62,7 +62,7 @@ class Documents(unittest.TestCase):
             head, colon, names = line.partition("#")[0].partition(":")
             if colon:
                 below[head.split()[0]] = names.split()
-        used, left = set(), ["cc_program"]
+        used, left = set(), ["sumpharu"]
         while left:
             name = left.pop()
             left += [it for it in below.get(name, ()) if it in below and it not in used]

@@ -13,7 +13,7 @@ sys.path.insert(0, str(ROOT / "tools/lib"))
 import clusters
 import plans
 
-PROGRAM = ROOT / "crates/cc_program/out/cc_program"
+PROGRAM = ROOT / "crates/sumpharu/out/sumpharu"
 RACKS = ("--goals", "RackAwareGoal", "--skip-hard-goal-check")
 
 

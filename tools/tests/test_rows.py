@@ -13,7 +13,7 @@ ROOT = pathlib.Path(__file__).resolve().parents[2]
 sys.path.insert(0, str(ROOT / "tools"))
 from rows import goals, plans, sessions, summaries
 
-PROGRAM = ROOT / "crates/cc_program/out/cc_program"
+PROGRAM = ROOT / "crates/sumpharu/out/sumpharu"
 
 
 def out_of_room(size):

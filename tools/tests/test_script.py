@@ -31,7 +31,7 @@ version)
     [ ! -e "$control/swap" ] || mv "$control/swap" "$(cat "$control/where")"
     ;;
 all)
-    echo "== base"; echo "== cc_program"; echo "== summary"
+    echo "== base"; echo "== sumpharu"; echo "== summary"
     [ ! -e "$control/killed" ] || { echo 'base: failed (-9)'; exit 1; }
     ;;
 run)
@@ -39,12 +39,12 @@ run)
     echo started >>"$control/started"
     [ ! -e "$control/refuses" ] || { echo 'rt: crates.txt: line 3 is not of the form'; exit 2; }
     [ ! -e "$control/slow" ] || { sleep 30 & wait $!; }
-    text=$(cat ../../crates/cc_program/src/main.rt)
-    printf '#!/bin/sh\n[ "$2" != nap ] || exec sleep 30\necho "%s: $*"\ncat\nexit ${STATUS-0}\n' "$text" >out/cc_program
-    chmod +x out/cc_program
+    text=$(cat ../../crates/sumpharu/src/main.rt)
+    printf '#!/bin/sh\n[ "$2" != nap ] || exec sleep 30\necho "%s: $*"\ncat\nexit ${STATUS-0}\n' "$text" >out/sumpharu
+    chmod +x out/sumpharu
     [ ! -e "$control/late" ] || { echo 'rt: the program was not proved'; exit 2; }
-    [ ! -e "$control/edits" ] || echo 'edited' >../../crates/cc_program/src/main.rt
-    echo 'rt: running out/cc_program; to give it other input, run that file yourself' >&2
+    [ ! -e "$control/edits" ] || echo 'edited' >../../crates/sumpharu/src/main.rt
+    echo 'rt: running out/sumpharu; to give it other input, run that file yourself' >&2
     exit 2
     ;;
 esac
@@ -57,13 +57,13 @@ class Script(unittest.TestCase):
         self.addCleanup(shutil.rmtree, self.room)
         self.tree = self.room / "a tree"
         self.control = self.room / "control"
-        self.program = self.tree / "crates/cc_program/out/cc_program"
-        for folder in (self.tree / "crates/cc_program/src", self.tree / "crates/base/src", self.control, self.room / "bin"):
+        self.program = self.tree / "crates/sumpharu/out/sumpharu"
+        for folder in (self.tree / "crates/sumpharu/src", self.tree / "crates/base/src", self.control, self.room / "bin"):
             folder.mkdir(parents=True)
         for name in ("sumpharu", "docs", "tools"):
             link = shutil.copytree if (ROOT / name).is_dir() else shutil.copy
             link(ROOT / name, self.tree / name)
-        (self.tree / "crates.txt").write_text("# crates\nbase: thiserror\ncc_program: base serde_json\nother: base\n")
+        (self.tree / "crates.txt").write_text("# crates\nbase: thiserror\nsumpharu: base serde_json\nother: base\n")
         (self.tree / "HANDLES").write_text("Handles allowed: none.\n")
         (self.tree / "crates/base/src/lib.rt").write_text("base\n")
         self.write("one")
@@ -75,7 +75,7 @@ class Script(unittest.TestCase):
         rt.chmod(0o755)
 
     def write(self, text):
-        (self.tree / "crates/cc_program/src/main.rt").write_text(text + "\n")
+        (self.tree / "crates/sumpharu/src/main.rt").write_text(text + "\n")
 
     def start(self, *words, script=None, prover=True, status=0, cwd=None, **how):
         path = f"{os.path.dirname(sys.executable)}:/usr/bin:/bin"
@@ -109,19 +109,19 @@ class Script(unittest.TestCase):
     def test_builds_once_and_after_each_change(self):
         code, out, err = self.plan(given="input")
         self.assertEqual((code, out), (0, f"one: plan {self.cluster}\ninput"))
-        self.assertIn("sumpharu: checked 1 of 2: base\nsumpharu: checked 2 of 2: cc_program\n", err)
+        self.assertIn("sumpharu: checked 1 of 2: base\nsumpharu: checked 2 of 2: sumpharu\n", err)
         self.assertEqual(self.plan()[2], "")
         self.assertEqual(self.calls("run"), 1)
         # a source that is older than the program
         self.write("two")
-        os.utime(self.tree / "crates/cc_program/src/main.rt", (0, 0))
+        os.utime(self.tree / "crates/sumpharu/src/main.rt", (0, 0))
         self.assertTrue(self.plan()[1].startswith("two:"))
         changes = [
-            lambda: (self.tree / "crates.txt").write_text("cc_program: base\nbase:\n"),
+            lambda: (self.tree / "crates.txt").write_text("sumpharu: base\nbase:\n"),
             lambda: (self.tree / "HANDLES").write_text("Handles allowed: Net.\n"),
             lambda: (self.control / "version").write_text("kit 2\n"),
             lambda: (self.tree / "crates/base/src/lib.rt").rename(self.tree / "crates/base/src/mod.rt"),
-            lambda: (self.tree / "crates/cc_program/out/cc_program").write_text("#!/bin/sh\necho other\n"),
+            lambda: (self.tree / "crates/sumpharu/out/sumpharu").write_text("#!/bin/sh\necho other\n"),
         ]
         for number, change in enumerate(changes):
             change()
@@ -308,7 +308,7 @@ class Script(unittest.TestCase):
         inner = self.tree / "crates/base/src/out"
         inner.mkdir()
         self.plan()
-        files = [elsewhere / "a.rt", inner / "b.rt", self.tree / "crates/base/two\nlines  and 'quotes'.rt", self.tree / "crates/cc_program/.hidden"]
+        files = [elsewhere / "a.rt", inner / "b.rt", self.tree / "crates/base/two\nlines  and 'quotes'.rt", self.tree / "crates/sumpharu/.hidden"]
         for number, file in enumerate(files):
             file.write_text("changed")
             self.plan()
@@ -325,7 +325,7 @@ class Script(unittest.TestCase):
         self.assertEqual(self.calls("all check --jobs 3"), 1)
 
     def test_read_only(self):
-        out = self.tree / "crates/cc_program/out"
+        out = self.tree / "crates/sumpharu/out"
         out.write_text("a file where the folder would be, which root can't write either")
         code, _, err = self.plan()
         self.assertEqual(code, 1)

@@ -16,7 +16,7 @@ sys.path.insert(0, str(ROOT / "tools/lib"))
 import serving
 from commands import EXAMPLES
 
-PROGRAM = ROOT / "crates/cc_program/out/cc_program"
+PROGRAM = ROOT / "crates/sumpharu/out/sumpharu"
 # No wait of a test is longer.
 SECONDS = 20
 # Of so many bytes of addresses the program has enough, and the stack of a thread has no place.

@@ -35,7 +35,8 @@ pub trait Band {
         ensures small { result.upper ≤ 2 ^ 114 };
 
     /// The products in an excess fit 120 bits.
-    ghost small_bounds: { (b : Self) (c : Cluster) → made_for b c → IsCase c → SmallBounds (bounds b c) };
+    ghost small_bounds: { (b : Self) (c : Cluster) → made_for b c → IsCase c
+        → SmallBounds (bounds b c) };
 }
 
 /// A band that is made from the case alone.

@@ -25,7 +25,8 @@ pub fn unit_count(brokers: &[Broker]) -> usize
     brokers.iter().filter(|x| !x.state.is_dead()).count()
 }
 
-/// The place of the broker of a unit: of the brokers that aren't lost, the one that has so many before it.
+/// The place of the broker of a unit: of the brokers that aren't lost, the one that has so many
+/// before it.
 pub fn unit_place(brokers: &[Broker], unit: usize) -> usize
     requires { unit < length (unit_brokers brokers.now) }
     ensures within { result < length brokers.now }
@@ -64,12 +65,14 @@ pub fn leading_count(brokers: &[Broker]) -> usize
     count
 }
 
-/// The place of the broker of a unit: of the brokers that are neither lost nor demoted, the one that has so many before it.
+/// The place of the broker of a unit: of the brokers that are neither lost nor demoted, the one
+/// that has so many before it.
 pub fn leading_place(brokers: &[Broker], unit: usize) -> usize
     requires { unit < length (leading_brokers brokers.now) }
     ensures within { result < length brokers.now }
     ensures value { (f : Broker → ℕ)
-        → get_or (map f (leading_brokers brokers.now)) unit 0 ≡ get_or (map f brokers.now) result 0 }
+        → get_or (map f (leading_brokers brokers.now)) unit 0
+        ≡ get_or (map f brokers.now) result 0 }
 {
     let mut left = unit;
     for (place, broker) in brokers.iter().enumerate() {
@@ -168,7 +171,8 @@ pub fn excess_at_place<A: Amount, B: Band>(
     excess_of(band, case, all, amount, broker_at(case, place))
 }
 
-/// The excess that the broker at a place has where it carries an amount, at most 2^111: 0 where it is lost.
+/// The excess that the broker at a place has where it carries an amount, at most 2^111: 0 where it
+/// is lost.
 pub fn unit_excess<B: Band>(band: &B, case: &Case, all: u128, amount: u128, place: usize) -> u128
     requires made { B.made_for band.now case.now }
     requires all { all < 2 ^ 49 }
@@ -263,7 +267,8 @@ fn room_with<B: Band>(band: &B, case: &Case, all: u128, amount: u128, broker: &B
     }
 }
 
-/// The room of the broker at a place: no limit for a lost one. `all` is what all brokers carry together.
+/// The room of the broker at a place: no limit for a lost one. `all` is what all brokers carry
+/// together.
 pub fn room_at_place<A: Amount, B: Band>(
     kind: &A,
     band: &B,

@@ -21,8 +21,8 @@ use plan_terms::{Action, Memory};
 use std::alloc::Global;
 use std::marker::PhantomData;
 
-/// The goal that no broker's quantity `A` lies outside the bounds `B`, which is as strong as `S` says. Its units are the
-/// brokers that aren't lost, in order.
+/// The goal that no broker's quantity `A` lies outside the bounds `B`, which is as strong as `S`
+/// says. Its units are the brokers that aren't lost, in order.
 #[derive(Drop)]
 pub struct BrokerGoal<A, B, S> {
     kind: A,
@@ -121,7 +121,10 @@ impl<A: Amount, B: Band, S: Strength> Goal for BrokerGoal<A, B, S> {
         Some(room_at_place(&self.kind, &self.band, case, book, all, broker))
     }
 
-    ghost small = { λ g c lists made is_case fits. let limits = Limits-case c is_case in per_broker-fits_120_bits (A.weights g.kind) c lists limits (λ k d l. A.small_weights g.kind (get_or c.parts k d) (limits.loads k d l)) fits S.HARD (B.bounds g.band c) (B.small_bounds g.band c made.1 is_case) };
+    ghost small = { λ g c lists made is_case fits. let limits = Limits-case c is_case in
+        per_broker-fits_120_bits (A.weights g.kind) c lists limits
+        (λ k d l. A.small_weights g.kind (get_or c.parts k d) (limits.loads k d l)) fits S.HARD
+        (B.bounds g.band c) (B.small_bounds g.band c made.1 is_case) };
 
     ghost cold_pairs = { λ g c lists _ is_case fits. broker-cold_pairs S.HARD (A.weights g.kind)
         (B.bounds g.band c) c lists (Limits-case c is_case) fits };
@@ -132,7 +135,9 @@ impl<A: Amount, B: Band, S: Strength> Goal for BrokerGoal<A, B, S> {
     ghost idle_trades = { λ g c lists _ is_case fits. broker-idle_trades S.HARD (A.weights g.kind)
         (B.bounds g.band c) c lists (Limits-case c is_case) fits };
 
-    ghost rooms_decide = { λ g c lists _ is_case fits. let limits = Limits-case c is_case in broker-rooms_decide S.HARD (A.weights g.kind) (B.bounds g.band c) c lists limits fits (λ k d l. A.small_weights g.kind (get_or c.parts k d) (limits.loads k d l)) };
+    ghost rooms_decide = { λ g c lists _ is_case fits. let limits = Limits-case c is_case in
+        broker-rooms_decide S.HARD (A.weights g.kind) (B.bounds g.band c) c lists limits fits
+        (λ k d l. A.small_weights g.kind (get_or c.parts k d) (limits.loads k d l)) };
 
     ghost rooms_stay = { λ g c lists _ belongs a fit k not_giver not_taker. broker-rooms_stay
         (A.weights g.kind) (B.bounds g.band c) c lists a belongs fit k not_giver not_taker };

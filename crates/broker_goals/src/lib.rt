@@ -1,4 +1,5 @@
-//! Goals with one unit for each broker that isn't lost: a quantity of the broker, and the bounds that it should stay in.
+//! Goals with one unit for each broker that isn't lost: a quantity of the broker, and the bounds
+//! that it should stay in.
 #![tactic(auto)]
 
 mod amount;

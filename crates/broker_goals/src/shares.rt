@@ -19,8 +19,8 @@ pub fn low_num(ratio: Ratio) -> u32
     (2 * ratio.den()).saturating_sub(ratio.num())
 }
 
-/// A count near an even share: between the n-th part of all, times the lower threshold and rounded down, and that times
-/// the threshold, rounded up.
+/// A count near an even share: between the n-th part of all, times the lower threshold and rounded
+/// down, and that times the threshold, rounded up.
 #[derive(Drop)]
 pub struct Even<T> {
     ratio: Ratio,
@@ -61,7 +61,8 @@ impl<T: Balance> Band for Even<T> {
 
     ghost bounds = { λ _ c. even (T.threshold c.options) (units_of c) };
 
-    ghost made_for = { λ b c. IsThreshold b.ratio (T.threshold c.options) × (b.units ≡ units_of c) };
+    ghost made_for = { λ b c. IsThreshold b.ratio (T.threshold c.options)
+        × (b.units ≡ units_of c) };
 
     fn edges(&self, _case: &Case, all: u128, _broker: &Broker) -> Edges {
         Edges {

@@ -76,8 +76,8 @@ impl<R: Resource, F: Floor> Band for Use<R, F> {
     ghost use Rattle.broker_goals.specs.Uses.{use_bounds-small};
     ghost use Rattle.goal_terms.proofs.CaseLemmas.{Limits-case};
 
-    ghost bounds = { λ _ c. use_bounds F.HAS_FLOOR (ratio_at c.options.balance R.resource) R.resource
-        (whole_cap R.resource c) };
+    ghost bounds = { λ _ c. use_bounds F.HAS_FLOOR
+        (ratio_at c.options.balance R.resource) R.resource (whole_cap R.resource c) };
 
     ghost made_for = { λ b c. IsThreshold b.ratio (ratio_at c.options.balance R.resource)
         × (b.whole ≡ whole_cap R.resource c) };

@@ -1,6 +1,6 @@
 -- What the weights and rooms of goals say of a move, goal by goal and of all together.
 use Rattle.std.specs.Prelude.{IfSome, IfNone, IsTrue, option_map, Option, Some, None, Bool}
-use Rattle.std.proofs.Common.{◌≡◌, ℕ, ◌<◌, ◌≤◌, List, [], ◌∷◌, length, map, get_or, arith, refl, ◌∙◌, sym, ap, false, true, inl, inr}
+use Rattle.std.proofs.Common.{◌≡◌, ℕ, ◌<◌, ◌≤◌, List, [], ◌∷◌, length, map, get_or, suc, arith, refl, ◌∙◌, sym, ap, false, true, inl, inr}
 use Rattle.std.specs.List.{All}
 use Rattle.std.proofs.lemmas.List.{get_or-map, length-map}
 use Rattle.std.proofs.lemmas.List.Elements.{All-map}
@@ -52,6 +52,19 @@ room-some (Some w) r s e = cc
 pub room-none : (o : Option Weights) (r : Room) → None ≡ option_map (λ _. r) o → free ≡ look_room o r
 room-none None r e = refl
 room-none (Some w) r e = absurd cc
+
+-- rooms that are the same for each goal
+room-same : (o : Option Weights) (r s : Room) → r ≡ s → look_room o r ≡ look_room o s
+room-same None r s e = refl
+room-same (Some w) r s e = e
+
+pub rooms-same : {X : Type 0} (weighs : X → Option Weights) (f h : X → Room) (xs : List X) → All (λ x. f x ≡ h x) xs
+    → map (λ x. look_room (weighs x) (f x)) xs ≡ map (λ x. look_room (weighs x) (h x)) xs
+rooms-same weighs f h [] e = refl
+rooms-same weighs f h (x ∷ xs) e =
+    let here = room-same (weighs x) (f x) (h x) (e 0 x (omega arith)) in
+    let rest = rooms-same weighs f h xs (λ k d l. e (suc k) d (omega arith)) in
+    cc
 
 module _ (parts : List Part) (lists : Lists) where
   -- the weight of the place that a move takes along
@@ -189,6 +202,13 @@ pub below-alone : (o : Option Weights) (m : Meaning) (hot : ℕ → Heat) (parts
 below-alone None m hot parts lists idle p a b fit e f less = false≢true e
 below-alone (Some w) m hot parts lists idle p a b fit e f less =
     idle.falling (Move p a b) fit (not_above (hot a) (not-true (is_above (hot a)) e)) (not_below (hot b) f) (omega arith) less
+
+-- nor does any from a broker that isn't above its bounds, where the goal has a quantity
+pub weighed-below : (o : Option Weights) (m : Meaning) (hot : ℕ → Heat) (parts : List Part) (lists : Lists) → IfSome o (IdleTrades m hot parts lists)
+    → (p a b : ℕ) → IsTrue (fits lists (Move p a b))
+    → helps_below_alone (option_map (λ w. total w parts lists) o) (hot a) ≡ true → is_below (hot b) ≡ false → Lessens m lists (Move p a b) → ⊥
+weighed-below None m hot parts lists idle p a b fit e f less = false≢true e
+weighed-below (Some w) m hot parts lists idle p a b fit e f less = below-alone (Some w) m hot parts lists idle p a b fit e f less
 
 -- any action, by what its two brokers give and get back
 module _ (parts : List Part) (lists : Lists) (a : Action) where

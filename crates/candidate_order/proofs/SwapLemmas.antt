@@ -1,6 +1,6 @@
 -- Swaps that are not legal, or cannot help.
 use Rattle.std.specs.Prelude.{not, IfSome, IsTrue, option_map, Option, Some, None}
-use Rattle.std.proofs.Common.{◌≡◌, ℕ, ◌<◌, List, [], ◌∷◌, get_or, false, true, inl, inr, arith}
+use Rattle.std.proofs.Common.{◌≡◌, ℕ, ◌<◌, List, [], ◌∷◌, get_or, false, true, inl, inr, arith, refl}
 use Rattle.std.proofs.lemmas.Bool.{cases_lt, lt-ltb, le-ltb, and_parts, and_from, or_parts, not-false, false≢true, eqb-true}
 use Rattle.std.proofs.lemmas.Bool.Decides.{nat_tests}
 use Rattle.plan_terms.specs.Cluster.{Cluster, Lists, list_of, leads}
@@ -13,7 +13,7 @@ use Rattle.plan_terms.specs.declared.cluster.Part.{Part}
 use Rattle.goal_terms.specs.Pairs.{ColdPairs, IdleTrades, giver, taker}
 use Rattle.goal_terms.specs.Quantity.{Weights, part_weight, trade}
 use Rattle.goal_terms.specs.declared.heat.Heat.{Heat}
-use Rattle.candidate_order.specs.Looks.{is_cold, is_above, is_below, may_meet, may_swap}
+use Rattle.candidate_order.specs.Looks.{is_cold, is_above, is_below, may_meet, may_swap, trades_nothing}
 use Rattle.candidate_order.proofs.LookLemmas.{cold-is, not_above, not_below}
 
 -- a swap goes to a later partition
@@ -100,3 +100,9 @@ idle-meet (Some w) m hot parts lists cold idle p a q b fit e less =
       | inl l ↦ idle.falling (Swap p a q b) fit (not_above (hot a) source.0) (not_below (hot b) target.1) (omega arith) less
       | inr g ↦ idle.rising (Swap p a q b) fit (not_below (hot a) source.1) (not_above (hot b) target.0) (omega arith) less
     ]
+
+-- nor does one by which as much comes back as goes
+pub nothing-trades : (o back : Option ℕ) (s t : Heat) → trades_nothing o back ≡ true → may_swap o back s t ≡ false
+nothing-trades None back s t e = absurd (false≢true e)
+nothing-trades (Some m) None s t e = absurd (false≢true e)
+nothing-trades (Some m) (Some n) s t e = rw (eqb-true m n e, le-ltb n n (omega arith)) refl

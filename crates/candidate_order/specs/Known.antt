@@ -9,7 +9,7 @@ use Rattle.move_actions.specs.declared.goals.Goal as goal_trait
 use Rattle.candidate_order.specs.CandidateList.{FirstStep, NoStep, candidates_at}
 use Rattle.candidate_order.specs.First.{IsFirst}
 use Rattle.candidate_order.specs.Looks.{look_room, look_weight}
-use Rattle.candidate_order.specs.Scan.{AreBelow, AreChosen, IsRow, IsScan, IsSearch}
+use Rattle.candidate_order.specs.Scan.{AreBelow, AreChosen, IsKept, IsRow, IsScan, IsSearch}
 use Rattle.candidate_order.specs.declared.blocks.Search.{Search}
 use Rattle.candidate_order.specs.declared.kept.Choice.{Choice}
 use Rattle.candidate_order.specs.declared.kept.Row.{Row}
@@ -54,6 +54,10 @@ AreBelowFor g c lists earlier goal rows = AreBelow g.weighs (λ x. g.room_at x c
 -- what is kept for a search is true of the lists
 abbrev pub IsScanFor : {G : Type 0} → goal_trait.Ghosts G → Cluster → Lists → List G → G → Scan → Type 0
 IsScanFor g c lists earlier goal scan = IsScan g.weighs (λ x. g.room_at x c lists) (g.heat_at goal c lists) (g.stirs_at goal c lists) earlier c scan
+
+-- of it, all but two brokers' rooms is true of the lists
+abbrev pub IsKeptFor : {G : Type 0} → goal_trait.Ghosts G → Cluster → Lists → List G → Scan → Type 0
+IsKeptFor g c lists earlier scan = IsKept g.weighs (λ x. g.room_at x c lists) earlier c scan
 
 -- what was found is the first of these actions that is a step, or none of them is one
 abbrev pub FindsFirst : {G : Type 0} → goal_trait.Ghosts G → Cluster → Lists → List G → G → List Action → Option Action → Type 0

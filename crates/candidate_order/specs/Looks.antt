@@ -64,7 +64,7 @@ weighs_nothing None = false
 weighs_nothing (Some n) = n == 0
 
 -- where the goal has a quantity and the source doesn't lie above its bounds, a move can help only a broker that lies below its own
-abbrev pub helps_below_alone : Option ℕ → Heat → Bool
+abbrev pub helps_below_alone : {X : Type 0} → Option X → Heat → Bool
 helps_below_alone None source = false
 helps_below_alone (Some n) source = not (is_above source)
 
@@ -81,6 +81,12 @@ may_swap None back source target = not (is_cold source && is_cold target)
 may_swap (Some m) None source target = not (is_cold source && is_cold target)
 may_swap (Some m) (Some n) source target =
     if nat_lt n m then is_above source || is_below target else nat_lt m n && (is_above target || is_below source)
+
+-- the goal has a quantity, and as much of it comes back as goes
+abbrev pub trades_nothing : Option ℕ → Option ℕ → Bool
+trades_nothing None back = false
+trades_nothing (Some m) None = false
+trades_nothing (Some m) (Some n) = m == n
 
 -- what the giver of an action gives for a goal, and what it gets back: nothing where the goal has no quantity
 abbrev pub look_out : Option Weights → List Part → Lists → Action → ℕ

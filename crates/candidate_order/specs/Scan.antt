@@ -60,6 +60,12 @@ pub record IsScan {X : Type 0} (weighs : X → Option Weights) (room : X → ℕ
   pub added_are : AreChosen choice.New weighs room heat earlier c s.added.items
   pub stirring_are : AreStirring stirs c.parts s.stirring.items
 
+-- what stays true of it when an action was done: of all but the rooms of the two brokers that it tells
+pub record IsKept {X : Type 0} (weighs : X → Option Weights) (room : X → ℕ → Room) (earlier : List X) (c : Cluster) (s : Scan) : Type 0 where
+  pub weights_are : AreWeights weighs earlier c.parts s.weights.items
+  pub brokers_are : map (λ (r : Row). r.id) s.rows.items ≡ ids_of c.brokers
+  pub rooms_are : All (λ (r : Row). (r.id ≡ s.giver → ⊥) → (r.id ≡ s.taker → ⊥) → r.rooms.items ≡ map (λ x. look_room (weighs x) (room x r.id)) earlier) s.rows.items
+
 -- what a search for the candidates of one broker's replicas stands on
 pub record IsSearch {G : Type 0} (g : goal_trait.Ghosts G) (earlier : List G) (goal : G) (c : Cluster) (b : Book) (order : List (List ℕ)) (scan : Scan) (source : Row) : Type 0 where
   pub made : All (λ x. g.made_for x c) earlier

@@ -1,4 +1,5 @@
-// The first candidate of many replicas of one broker, looked for by blocks in order, each by several threads.
+// The first candidate of many replicas of one broker, looked for by blocks in order, each by
+// several threads.
 ghost use Rattle.std.specs.Prelude.{◌≡◌, ◌<◌, List, None, Option, MatchOption, Some, find, length, is_some};
 ghost use Rattle.std.specs.List.{All, AllZip, flat_map};
 ghost use Rattle.candidate_order.specs.Known.{IsSearchOf, SearchFinds, searched};

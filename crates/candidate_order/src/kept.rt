@@ -1,20 +1,23 @@
 // What is known before candidates are tried.
-ghost use Rattle.candidate_order.specs.Known.{AreBelowFor, AreChosenFor, IsRowFor, IsScanFor};
+ghost use Rattle.candidate_order.specs.Known.{AreBelowFor, AreChosenFor, IsKeptFor, IsRowFor, IsScanFor, rooms_for};
 ghost use Rattle.std.specs.Prelude.{◌≡◌, ◌<◌, true, false, IfOk, IsTrue, map, length};
 ghost use Rattle.std.specs.List.{All};
-ghost use Rattle.candidate_order.specs.Looks.{is_cold, look_weight, look_whole, IsWeighed};
+ghost use Rattle.candidate_order.specs.Looks.{is_below, is_cold, look_weight, look_whole, IsWeighed};
 ghost use Rattle.candidate_order.specs.declared.kept.Row.{Row};
 ghost use Rattle.candidate_order.specs.Scan.{AreStirring, AreWeights, is_chosen};
 ghost use Rattle.goal_terms.specs.declared.heat.Heat.TheVariants as heat;
 ghost use Rattle.plan_terms.specs.Belongs.{IsBookOf};
+ghost use Rattle.goal_terms.specs.Pairs.{giver, taker};
 ghost use Rattle.plan_terms.specs.Cluster.{is_known, id_at, ids_of};
+ghost use Rattle.plan_terms.specs.Effect.{after};
+ghost use Rattle.plan_terms.specs.Fits.{fits};
 
 use crate::looks::{rooms_of, weights_of, wholes_of};
 use crate::order::broker_place;
 use goal_terms::{Heat, Room};
 use load_model::{Case, LoadBook};
 use move_actions::Goal;
-use plan_terms::Memory;
+use plan_terms::{Action, Memory};
 use std::alloc::Global;
 
 /// What the places of a partition weigh for the earlier goals: 0 for one without a quantity.
@@ -48,6 +51,9 @@ pub struct Scan {
     pub added: Vec<Row>,
     /// The partitions whose actions may help the goal at hand.
     pub stirring: Vec<u32>,
+    /// The two brokers of the last action, whose rooms it changed.
+    pub giver: u32,
+    pub taker: u32,
 }
 
 // What the places of one partition weigh.
@@ -95,7 +101,8 @@ pub(crate) fn column<'a, G: Goal>(
 ) -> &'a [u64]
     requires weights { AreWeights G.weighs earlier.now case.now.parts weights.now }
     requires part { part < length case.now.parts }
-    ensures { result.now ≡ map (λ g. look_weight (G.weighs g) case.now.parts part first) earlier.now }
+    ensures { result.now
+        ≡ map (λ g. look_weight (G.weighs g) case.now.parts part first) earlier.now }
 {
     let _brokers = case.brokers();
     let _goals = earlier.len();
@@ -152,6 +159,81 @@ pub fn all_rows<G: Goal>(
     let end = case.brokers().len();
     for broker in 0..end {
         let row = row_at(alloc, case, book, earlier, goal, &wholes, broker)?;
+        rows.push(row)?;
+    }
+    Ok(rows)
+}
+
+// What is kept of the broker at a place, where its rooms are known unless an action changed them.
+fn row_again<G: Goal>(
+    alloc: Global,
+    case: &Case,
+    book: &LoadBook,
+    earlier: &[G],
+    goal: &G,
+    wholes: &[u128],
+    scan: &Scan,
+    row: &Row,
+    broker: usize,
+) -> Result<Row, Memory>
+    requires made { All (λ g. G.made_for g case.now) earlier.now }
+    requires made_goal { G.made_for goal.now case.now }
+    requires belongs { IsBookOf case.now book.now }
+    requires wholes { wholes.now
+        ≡ map (λ g. look_whole (G.weighs g) case.now.parts book.now.lists) earlier.now }
+    requires broker { broker < length case.now.brokers }
+    requires row { row.now.id ≡ id_at case.now.brokers broker }
+    requires rooms { (row.now.id ≡ scan.now.giver → ⊥) → (row.now.id ≡ scan.now.taker → ⊥)
+        → row.now.rooms.items
+        ≡ rooms_for G.Goal case.now book.now.lists row.now.id earlier.now }
+    ensures id { IfOk result (λ r. r.id ≡ id_at case.now.brokers broker) }
+    ensures row { IfOk result (IsRowFor G.Goal case.now book.now.lists earlier.now goal.now) }
+{
+    if row.id == scan.giver || row.id == scan.taker {
+        return row_at(alloc, case, book, earlier, goal, wholes, broker);
+    }
+    let rooms = Vec::from_slice(alloc, row.rooms.as_slice())?;
+    let heat = goal.heat(case, book, broker);
+    Ok(Row {
+        id: row.id,
+        rooms,
+        heat,
+    })
+}
+
+/// What is kept of each broker, in their order, where the rooms are known of all but two.
+pub fn all_again<G: Goal>(
+    alloc: Global,
+    case: &Case,
+    book: &LoadBook,
+    earlier: &[G],
+    goal: &G,
+    scan: &Scan,
+) -> Result<Vec<Row>, Memory>
+    requires made { All (λ g. G.made_for g case.now) earlier.now }
+    requires made_goal { G.made_for goal.now case.now }
+    requires belongs { IsBookOf case.now book.now }
+    requires kept { IsKeptFor G.Goal case.now book.now.lists earlier.now scan.now }
+    ensures brokers { IfOk result (λ v. map (λ (r : Row). r.id) v.items ≡ ids_of case.now.brokers) }
+    ensures rows { IfOk result
+        (λ v. All (IsRowFor G.Goal case.now book.now.lists earlier.now goal.now) v.items) }
+{
+    let _brokers = case.brokers();
+    let wholes = wholes_of(alloc, case, book, earlier)?;
+    let kept = scan.rows.as_slice();
+    let mut rows = Vec::new(alloc);
+    for broker in 0..kept.len() {
+        let row = row_again(
+            alloc,
+            case,
+            book,
+            earlier,
+            goal,
+            &wholes,
+            scan,
+            &kept[broker],
+            broker,
+        )?;
         rows.push(row)?;
     }
     Ok(rows)
@@ -236,20 +318,74 @@ pub fn all_below<G: Goal>(
     all_chosen(alloc, case, book, earlier, goal, rows, Choice::Below)
 }
 
+// The broker that a replica or the lead leaves.
+fn giver(book: &LoadBook, action: Action) -> u32
+    requires { IsTrue (fits book.now.lists action) }
+    ensures { result ≡ giver book.now.lists action }
+{
+    match action {
+        Action::Move { from, .. } => from,
+        Action::Lead { part, .. } => book.list(part as usize)[0],
+        Action::Swap { from, .. } => from,
+    }
+}
+
+// The broker that takes it.
+fn taker(action: Action) -> u32
+    ensures { result ≡ taker action }
+{
+    match action {
+        Action::Move { to, .. } => to,
+        Action::Lead { to, .. } => to,
+        Action::Swap { to, .. } => to,
+    }
+}
+
 impl Scan {
-    /// What no action changes.
-    pub fn new<G: Goal>(alloc: Global, case: &Case, earlier: &[G]) -> Result<Scan, Memory>
-        requires { All (λ g. G.made_for g case.now) earlier.now }
-        ensures { IfOk result (λ s. AreWeights G.weighs earlier.now case.now.parts s.weights.items) }
+    /// What is known before the first action of a goal's turn.
+    pub fn new<G: Goal>(
+        alloc: Global,
+        case: &Case,
+        book: &LoadBook,
+        earlier: &[G],
+        goal: &G,
+    ) -> Result<Scan, Memory>
+        requires made { All (λ g. G.made_for g case.now) earlier.now }
+        requires made_goal { G.made_for goal.now case.now }
+        requires belongs { IsBookOf case.now book.now }
+        ensures { IfOk result (IsKeptFor G.Goal case.now book.now.lists earlier.now) }
     {
         let weights = all_weights(alloc, case, earlier)?;
+        let rows = all_rows(alloc, case, book, earlier, goal)?;
         Ok(Scan {
             weights,
-            rows: Vec::new(alloc),
+            rows,
             below: Vec::new(alloc),
             added: Vec::new(alloc),
             stirring: Vec::new(alloc),
+            giver: u32::MAX,
+            taker: u32::MAX,
         })
+    }
+
+    /// Notes an action that is about to be applied to the book: it changes the rooms of its two
+    /// brokers alone.
+    pub fn note<G: Goal>(
+        &mut self,
+        case: &Case,
+        book: &LoadBook,
+        earlier: &[G],
+        goal: &G,
+        action: Action,
+    )
+        requires made { All (λ g. G.made_for g case.now) earlier.now }
+        requires belongs { IsBookOf case.now book.now }
+        requires applies { IsTrue (fits book.now.lists action) }
+        requires scan { IsScanFor G.Goal case.now book.now.lists earlier.now goal.now self.old }
+        ensures { IsKeptFor G.Goal case.now (after action book.now.lists) earlier.now self.new }
+    {
+        self.giver = giver(book, action);
+        self.taker = taker(action);
     }
 }
 
@@ -309,6 +445,24 @@ pub(crate) fn all_cold(rows: &[Row]) -> bool
 {
     for row in rows {
         if !is_cold(row.heat) {
+            return false;
+        }
+    }
+    true
+}
+
+fn is_below(heat: Heat) -> bool
+    ensures { result ≡ is_below heat }
+{
+    matches!(heat, Heat::Below)
+}
+
+// Whether none of some brokers lies below its bounds.
+pub(crate) fn none_below(rows: &[Row]) -> bool
+    ensures { IsTrue result → All (λ (r : Row). is_below r.heat ≡ false) rows.now }
+{
+    for row in rows {
+        if is_below(row.heat) {
             return false;
         }
     }

@@ -4,7 +4,8 @@ ghost use Rattle.candidate_order.specs.Laws.{CandidatesAreAll, FiltersKeepTheFir
 ghost use Rattle.plan_terms.specs.Cluster.{Cluster, Lists};
 ghost use Rattle.plan_terms.specs.Goal.{Meaning};
 
-/// To leave out candidates that don't serve changes neither the first that does nor whether there is one.
+/// To leave out candidates that don't serve changes neither the first that does nor whether there
+/// is one.
 pub fn filters_keep_the_first()
     ensures { (c : Cluster) (earlier : List Meaning) (goal : Meaning) (lists : Lists)
         → FiltersKeepTheFirst c earlier goal lists }

@@ -55,8 +55,8 @@ fn lead_serves<G: Goal>(
     )
 }
 
-// Whether a lead of a partition, whose first member is the source, to one of its members serves. A lead to any other broker
-// isn't legal.
+// Whether a lead of a partition, whose first member is the source, to one of its members serves. A
+// lead to any other broker isn't legal.
 fn some_lead_serves<G: Goal>(
     case: &Case,
     book: &LoadBook,
@@ -88,7 +88,8 @@ fn some_lead_serves<G: Goal>(
     false
 }
 
-/// The first lead of a partition, whose first member is the source, that serves, by the order of the brokers.
+/// The first lead of a partition, whose first member is the source, that serves, by the order of
+/// the brokers.
 pub fn first_lead<G: Goal>(
     case: &Case,
     book: &LoadBook,

@@ -1,4 +1,5 @@
-//! Which action the planner takes next: a legal one that the goals before accept and that lessens the goal at hand.
+//! Which action the planner takes next: a legal one that the goals before accept and that lessens
+//! the goal at hand.
 #![tactic(auto)]
 
 mod blocks;

@@ -71,7 +71,8 @@ fn whole_for<G: Goal>(case: &Case, book: &LoadBook, goal: &G) -> u128
     }
 }
 
-/// What all brokers carry together for each goal: 0 for one without a quantity. No action changes it.
+/// What all brokers carry together for each goal: 0 for one without a quantity. No action changes
+/// it.
 pub fn wholes_of<G: Goal>(
     alloc: Global,
     case: &Case,
@@ -81,7 +82,8 @@ pub fn wholes_of<G: Goal>(
     requires made { All (λ g. G.made_for g case.now) goals.now }
     requires belongs { IsBookOf case.now book.now }
     ensures { IfOk result
-        (λ v. v.items ≡ map (λ g. look_whole (G.weighs g) case.now.parts book.now.lists) goals.now) }
+        (λ v. v.items
+        ≡ map (λ g. look_whole (G.weighs g) case.now.parts book.now.lists) goals.now) }
 {
     let mut wholes = Vec::new(alloc);
     for goal in goals {
@@ -163,7 +165,8 @@ pub fn all_pass(weights: &[u64], givers: &[Room], takers: &[Room]) -> bool
     true
 }
 
-/// Whether the giver's rooms let a replica go at all. Where they don't, no move of it is accepted, wherever it goes.
+/// Whether the giver's rooms let a replica go at all. Where they don't, no move of it is accepted,
+/// wherever it goes.
 pub fn may_leave<G: Goal>(
     case: &Case,
     book: &LoadBook,

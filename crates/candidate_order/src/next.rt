@@ -1,12 +1,12 @@
 // The first candidate that serves.
-ghost use Rattle.std.specs.Prelude.{IsTrue, IfOk};
+ghost use Rattle.std.specs.Prelude.{IsTrue, IfOk, IfSome};
 ghost use Rattle.std.specs.List.{All};
-ghost use Rattle.candidate_order.specs.Known.{FindsNext, IsScanFor, NoneLeftFor};
+ghost use Rattle.candidate_order.specs.Known.{FindsNext, IsKeptFor, IsScanFor, NoneLeftFor};
 ghost use Rattle.candidate_order.specs.Order.{IsOrderOf};
-ghost use Rattle.candidate_order.specs.Scan.{AreStirring, AreWeights};
+ghost use Rattle.candidate_order.specs.Scan.{AreStirring};
 ghost use Rattle.plan_terms.specs.Belongs.{IsBookOf};
 
-use crate::kept::{Choice, Scan, all_below, all_chosen, all_cold, all_rows, all_stirring};
+use crate::kept::{Choice, Scan, all_again, all_below, all_chosen, all_cold, all_stirring};
 use crate::nexts::next_in;
 use crate::order::Order;
 use crate::plain::Kind;
@@ -85,8 +85,12 @@ fn first_candidate<G: Goal + Sync, R: Threads + Sync>(
     None
 }
 
-/// The first action of the list of candidates that each earlier goal accepts and that lessens the goal. `None` comes exactly
-/// where no legal action does. The swaps of a broker with many replicas are looked for by threads, with the same answer.
+/// The first action of the list of candidates that each earlier goal accepts and that lessens the
+/// goal. `None` comes exactly where no legal action does. The swaps of a broker with many replicas
+/// are looked for by threads, with the same answer.
+///
+/// `scan` is what was known of these lists, as [`Scan::new`] or, since the last action,
+/// [`Scan::note`] left it.
 pub fn next_lessening<G: Goal + Sync, R: Threads + Sync>(
     rt: &R,
     alloc: Global,
@@ -101,16 +105,17 @@ pub fn next_lessening<G: Goal + Sync, R: Threads + Sync>(
     requires made_goal { G.made_for goal.now case.now }
     requires belongs { IsBookOf case.now book.now }
     requires order { IsOrderOf case.now book.now.lists order.now }
-    requires weights { AreWeights G.weighs earlier.now case.now.parts scan.old.weights.items }
-    ensures weights { AreWeights G.weighs earlier.now case.now.parts scan.new.weights.items }
+    requires kept { IsKeptFor G.Goal case.now book.now.lists earlier.now scan.old }
     ensures next { IfOk result
         (λ next. FindsNext G.Goal case.now book.now.lists earlier.now goal.now next) }
+    ensures scan { IfOk result (λ next. IfSome next
+        (λ _. IsScanFor G.Goal case.now book.now.lists earlier.now goal.now scan.new)) }
 {
     scan.stirring = all_stirring(alloc, case, book, goal)?;
     if is_still(case, book, earlier, goal, &scan.stirring) {
         return Ok(None);
     }
-    scan.rows = all_rows(alloc, case, book, earlier, goal)?;
+    scan.rows = all_again(alloc, case, book, earlier, goal, scan)?;
     scan.below = all_below(alloc, case, book, earlier, goal, scan.rows.as_slice())?;
     scan.added = all_chosen(
         alloc,

@@ -1,9 +1,9 @@
 // The first candidate of one kind that serves.
-ghost use Rattle.std.specs.Prelude.{◌≡◌, ◌<◌, length};
+ghost use Rattle.std.specs.Prelude.{◌≡◌, ◌<◌, ℕ, None, IsTrue, length};
 ghost use Rattle.std.specs.List.{All, flat_map};
 ghost use Rattle.candidate_order.specs.CandidateList.{candidates_at, candidates_in};
 ghost use Rattle.candidate_order.specs.Known.{FindsFirst, IsRowFor, IsScanFor};
-ghost use Rattle.candidate_order.specs.Looks.{weighs_nothing};
+ghost use Rattle.candidate_order.specs.Looks.{trades_nothing, weighs_nothing};
 ghost use Rattle.candidate_order.specs.Order.{IsOrderOf};
 ghost use Rattle.candidate_order.specs.declared.plain.Kind.TheVariants as kind;
 ghost use Rattle.plan_terms.specs.Belongs.{IsBookOf};
@@ -13,8 +13,8 @@ use crate::kept::{Row, Scan, column};
 use crate::leads::first_lead;
 use crate::order::Order;
 use crate::plain::Kind;
-use crate::rows::first_anywhere;
-use crate::swaps::first_swap;
+use crate::rows::{first_anywhere, gives_in_vain};
+use crate::swaps::{first_swap, may_trade};
 use load_model::{Case, LoadBook};
 use move_actions::Goal;
 use plan_terms::{Action, leads};
@@ -60,6 +60,16 @@ fn first_move<G: Goal>(
     first_anywhere(case, book, earlier, goal, scan, part, source, weights, own)
 }
 
+// Whether a lead of these weights trades nothing.
+fn trades_nothing(out: Option<u64>, back: Option<u64>) -> bool
+    ensures { result ≡ trades_nothing out back }
+{
+    match (out, back) {
+        (Some(out), Some(back)) => out == back,
+        _ => false,
+    }
+}
+
 // The first lead of one partition that serves, where the source is its first member.
 fn first_lead_from<G: Goal>(
     case: &Case,
@@ -85,6 +95,11 @@ fn first_lead_from<G: Goal>(
         return None;
     }
     if !goal.stirs(case, book, part) {
+        return None;
+    }
+    let out = goal.weight(case, part, true);
+    let back = goal.weight(case, part, false);
+    if trades_nothing(out, back) {
         return None;
     }
     first_lead(case, book, earlier, goal, scan, part, source)
@@ -119,14 +134,40 @@ pub(crate) fn first_at<G: Goal>(
     }
 }
 
-// Whether threads would pay: a replica has a swap with every other, unless swaps aren't legal at all.
+// Whether threads would pay: a replica has a swap with every other, unless swaps aren't legal at
+// all.
 fn pay_threads(kind: Kind, case: &Case, replicas: &[u32]) -> bool {
     let may_swap = !case.options().leads_only && !case.any_new();
     matches!(kind, Kind::Swaps) && may_swap && replicas.len() >= BLOCK
 }
 
-// The first candidate of one kind for one broker's replicas that serves. Of many replicas, swaps are looked for by threads: a replica has a
-// swap with each of the others.
+// Whether no candidate of one kind for a broker's replicas can serve, whichever they are.
+fn serves_nobody<G: Goal>(
+    kind: Kind,
+    case: &Case,
+    book: &LoadBook,
+    earlier: &[G],
+    goal: &G,
+    scan: &Scan,
+    source: &Row,
+) -> bool
+    requires made_goal { G.made_for goal.now case.now }
+    requires belongs { IsBookOf case.now book.now }
+    requires scan { IsScanFor G.Goal case.now book.now.lists earlier.now goal.now scan.now }
+    requires source { IsRowFor G.Goal case.now book.now.lists earlier.now goal.now source.now }
+    ensures { IsTrue result → (part : ℕ)
+        → FindsFirst G.Goal case.now book.now.lists earlier.now goal.now
+        (candidates_at kind case.now book.now.lists source.now.id part) None }
+{
+    match kind {
+        Kind::Moves => gives_in_vain(case, book, earlier, goal, scan, source),
+        Kind::Leads => false,
+        Kind::Swaps => !may_trade(case, source.id),
+    }
+}
+
+// The first candidate of one kind for one broker's replicas that serves. Of many replicas, swaps
+// are looked for by threads: a replica has a swap with each of the others.
 fn first_of<G: Goal + Sync, R: Threads + Sync>(
     rt: &R,
     kind: Kind,
@@ -149,6 +190,9 @@ fn first_of<G: Goal + Sync, R: Threads + Sync>(
     ensures { FindsFirst G.Goal case.now book.now.lists earlier.now goal.now
         (flat_map (candidates_at kind case.now book.now.lists source.now.id) replicas.now) result }
 {
+    if serves_nobody(kind, case, book, earlier, goal, scan, source) {
+        return None;
+    }
     if pay_threads(kind, case, replicas) {
         let search = Search {
             kind,

@@ -84,7 +84,8 @@ fn legal_of(
     }
 }
 
-// The first action of one kind that serves. No more than one partition's actions are held at a time.
+// The first action of one kind that serves. No more than one partition's actions are held at a
+// time.
 fn next_of_kind<G: Goal>(
     alloc: Global,
     kind: Kind,
@@ -115,8 +116,8 @@ fn next_of_kind<G: Goal>(
     Ok(None)
 }
 
-/// The first legal action, in the order of [`all_actions`](move_actions::all_actions), that each earlier goal accepts and
-/// that lessens the goal. `None` comes exactly where there is none.
+/// The first legal action, in the order of [`all_actions`](move_actions::all_actions), that each
+/// earlier goal accepts and that lessens the goal. `None` comes exactly where there is none.
 pub fn plain_next<G: Goal>(
     alloc: Global,
     case: &Case,

@@ -18,7 +18,8 @@ use std::marker::Model;
 /// The greatest number of partitions of a case.
 const MAX_PARTS: usize = 10_000;
 
-/// The partitions of one broker's replicas, in order. There is room for each partition, so that none is refused.
+/// The partitions of one broker's replicas, in order. There is room for each partition, so that
+/// none is refused.
 #[derive(Drop)]
 pub struct Ranked {
     parts: Vec<u32>,

@@ -1,5 +1,5 @@
 // The first move of a replica that serves.
-ghost use Rattle.std.specs.Prelude.{◌≡◌, ◌<◌, ◌↔◌, ℕ, true, false, IsTrue, IfNone, map, length};
+ghost use Rattle.std.specs.Prelude.{◌≡◌, ◌<◌, ◌↔◌, ℕ, true, false, IsTrue, IfNone, None, map, length};
 ghost use Rattle.std.specs.List.{All};
 ghost use Rattle.candidate_order.specs.CandidateList.{moves_of_replica};
 ghost use Rattle.candidate_order.specs.Known.{FindsFirst, IsRowFor, IsScanFor, StepFor, weight_for, weights_for};
@@ -13,7 +13,7 @@ ghost use Rattle.plan_terms.specs.Legal.{is_legal};
 ghost use Rattle.plan_terms.specs.States.{is_new};
 ghost use Rattle.plan_terms.specs.declared.actions.Action.{Action};
 
-use crate::kept::{Row, Scan};
+use crate::kept::{Row, Scan, none_below};
 use crate::looks::{all_pass, may_leave};
 use goal_terms::Heat;
 use load_model::{Case, LoadBook};
@@ -164,8 +164,8 @@ pub fn first_to<G: Goal>(
     None
 }
 
-// Whether only a broker that lies below its bounds can be helped by that replica, if any.
-fn helps_below_alone(own: Option<u64>, source: Heat) -> bool
+// Whether only a broker that lies below its bounds can be helped by what a broker gives, if any.
+fn helps_below_alone<N: Copy>(own: Option<N>, source: Heat) -> bool
     ensures { result ≡ helps_below_alone own source }
 {
     match own {
@@ -174,7 +174,8 @@ fn helps_below_alone(own: Option<u64>, source: Heat) -> bool
     }
 }
 
-// Whether a broker may give replicas to brokers that are being added alone: some are, and it isn't lost.
+// Whether a broker may give replicas to brokers that are being added alone: some are, and it isn't
+// lost.
 fn gives_to_new(case: &Case, from: u32) -> bool
     ensures { result ≡ true → (lists : Lists) (p b : ℕ)
         → is_legal case.now lists (Action.Move p from b) ≡ true
@@ -184,6 +185,36 @@ fn gives_to_new(case: &Case, from: u32) -> bool
         return false;
     }
     !case.is_lost(from)
+}
+
+/// Whether no move of a broker's replicas can help: the broker gives to those that lie below their
+/// bounds alone, and none does to which it may give.
+pub(crate) fn gives_in_vain<G: Goal>(
+    case: &Case,
+    book: &LoadBook,
+    earlier: &[G],
+    goal: &G,
+    scan: &Scan,
+    source: &Row,
+) -> bool
+    requires made_goal { G.made_for goal.now case.now }
+    requires belongs { IsBookOf case.now book.now }
+    requires scan { IsScanFor G.Goal case.now book.now.lists earlier.now goal.now scan.now }
+    requires source { IsRowFor G.Goal case.now book.now.lists earlier.now goal.now source.now }
+    ensures { IsTrue result → (part : ℕ)
+        → FindsFirst G.Goal case.now book.now.lists earlier.now goal.now
+        (moves_of_replica case.now source.now.id part) None }
+{
+    let _brokers = case.brokers();
+    if !helps_below_alone(goal.whole(case, book), source.heat) {
+        return false;
+    }
+    if gives_to_new(case, source.id) {
+        let added = scan.added.as_slice();
+        return none_below(added);
+    }
+    let below = scan.below.as_slice();
+    none_below(below)
 }
 
 /// The first move of one replica that serves, by the order of the brokers.

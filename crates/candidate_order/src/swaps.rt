@@ -48,16 +48,27 @@ pub(crate) fn may_swap(own: Option<u64>, back: Option<u64>, source: Heat, target
     }
 }
 
+// Whether a swap of any of a broker's replicas may be legal.
+pub(crate) fn may_trade(case: &Case, from: u32) -> bool
+    ensures { result ≡ false → (lists : Lists) (p q b : ℕ)
+        → is_legal case.now lists (Action.Swap p from q b) ≡ true → ⊥ }
+{
+    if case.options().leads_only || case.any_new() {
+        return false;
+    }
+    case.is_live(from)
+}
+
 // Whether a swap of a broker's replica may be legal at all, whatever it is exchanged for.
 fn may_be_swapped(case: &Case, part: u32, from: u32) -> bool
     requires { part < length case.now.parts }
     ensures { result ≡ false → (lists : Lists) (q b : ℕ)
         → is_legal case.now lists (Action.Swap part from q b) ≡ true → ⊥ }
 {
-    if case.options().leads_only || case.any_new() {
+    if !may_trade(case, from) {
         return false;
     }
-    is_open(case, part) && case.is_live(from)
+    is_open(case, part)
 }
 
 // Whether a swap is legal, each earlier goal accepts it, and it lessens the goal.
@@ -280,7 +291,8 @@ fn may_serve<G: Goal>(
     some_stirring_serves(case, book, earlier, goal, scan, part, source, outs, own)
 }
 
-/// The first swap of one replica that serves, by the order of the brokers and of the replicas of each.
+/// The first swap of one replica that serves, by the order of the brokers and of the replicas of
+/// each.
 pub fn first_swap<G: Goal>(
     case: &Case,
     book: &LoadBook,

@@ -13,8 +13,9 @@ use plan_terms::{Caps, Memory, has};
 use std::alloc::Global;
 use std::marker::Model;
 
-/// How many tasks in flight add and remove each broker, move replicas, and change a leader alone. A task goes from one replica
-/// list to another; it moves replicas where the two differ as sets, and else changes the leader or the order alone.
+/// How many tasks in flight add and remove each broker, move replicas, and change a leader alone. A
+/// task goes from one replica list to another; it moves replicas where the two differ as sets, and
+/// else changes the leader or the order alone.
 #[derive(Drop)]
 pub struct Counts {
     // the known brokers, in rising order
@@ -31,7 +32,11 @@ impl Model for Counts {
 
     ghost Value = { Ledger };
 
-    ghost view = { λ c. record { entries = c.entries.items; replica = c.replica; leader = c.leader } };
+    ghost view = { λ c. record {
+      entries = c.entries.items;
+      replica = c.replica;
+      leader = c.leader;
+    } };
 
     ghost invariant = { λ c. AreInOrder c.ids.items c.entries.items };
 }

@@ -1,4 +1,5 @@
-//! How many tasks in flight add and remove each broker, and whether the caps leave room for one more.
+//! How many tasks in flight add and remove each broker, and whether the caps leave room for one
+//! more.
 #![tactic(auto)]
 
 mod counts;

@@ -8,12 +8,13 @@ use broker_goals::{
 };
 use move_actions::Goal;
 
-/// The goal that no broker holds more replicas than it may: Cruise Control's ReplicaCapacityGoal. A broker's excess is its
-/// replicas above that number.
+/// The goal that no broker holds more replicas than it may: Cruise Control's ReplicaCapacityGoal. A
+/// broker's excess is its replicas above that number.
 pub type ReplicaCapacityGoal = BrokerGoal<Replicas, AtMost, Hard>;
 
-/// The goal that no broker's disk holds more than the part of its capacity that may be used: Cruise Control's
-/// DiskCapacityGoal. With the limit `num / den`, a broker's excess is `load * den - num * cap`.
+/// The goal that no broker's disk holds more than the part of its capacity that may be used: Cruise
+/// Control's DiskCapacityGoal. With the limit `num / den`, a broker's excess is
+/// `load * den - num * cap`.
 pub type DiskCapacityGoal = BrokerGoal<Load<Disk>, WithinCapacity<Disk>, Hard>;
 
 /// The same of what comes in over the network: Cruise Control's NetworkInboundCapacityGoal.
@@ -33,7 +34,8 @@ pub type CpuCapacityGoal = BrokerGoal<Load<Cpu>, WithinCapacity<Cpu>, Hard>;
 pub fn meanings()
     ensures replicas { ⟦<ReplicaCapacityGoal as Goal>⟧.meaning ≡ λ _ c. replica_capacity_goal c }
     ensures cpu { ⟦<CpuCapacityGoal as Goal>⟧.meaning ≡ λ _ c. capacity_goal CPU c }
-    ensures inbound { ⟦<NetworkInboundCapacityGoal as Goal>⟧.meaning ≡ λ _ c. capacity_goal NW_IN c }
+    ensures inbound { ⟦<NetworkInboundCapacityGoal as Goal>⟧.meaning
+        ≡ λ _ c. capacity_goal NW_IN c }
     ensures outbound { ⟦<NetworkOutboundCapacityGoal as Goal>⟧.meaning
         ≡ λ _ c. capacity_goal NW_OUT c }
     ensures disk { ⟦<DiskCapacityGoal as Goal>⟧.meaning ≡ λ _ c. capacity_goal DISK c }

@@ -1,5 +1,5 @@
-// The files and the streams of the system. Nothing is told of their bytes. Each failure is counted, by a count that
-// stays at its greatest value.
+// The files and the streams of the system. Nothing is told of their bytes. Each failure is counted,
+// by a count that stays at its greatest value.
 ghost use Rattle.std.specs.Prelude.{◌≡◌, None};
 
 use crate::{Failed, FileFault, Files, MAX_FILE_LEN, Sink, Source};
@@ -7,7 +7,8 @@ use std::alloc::Global;
 use std::io::{self, ErrorKind, Read, Stderr, Stdout, Write};
 use std::{fs, rt};
 
-/// The files of the system, by their paths. Nothing is told of what they hold, nor of which were loaded.
+/// The files of the system, by their paths. Nothing is told of what they hold, nor of which were
+/// loaded.
 #[derive(Drop)]
 pub struct HostFiles<R> {
     rt: R,
@@ -51,8 +52,8 @@ impl<R: rt::Files> Files for HostFiles<R> {
     }
 }
 
-/// A stream of the system that is read. Nothing is told of its bytes, and a call that was interrupted
-/// (`ErrorKind::Interrupted`) counts as a fault.
+/// A stream of the system that is read. Nothing is told of its bytes, and a call that was
+/// interrupted (`ErrorKind::Interrupted`) counts as a fault.
 #[derive(Drop)]
 pub struct HostSource<R> {
     reader: R,
@@ -86,8 +87,9 @@ impl<R: Read> Source for HostSource<R> {
     }
 }
 
-/// A stream of the system that is written. Nothing is told of its bytes, and a call that was interrupted
-/// (`ErrorKind::Interrupted`) counts as a fault. So does one that takes none of some bytes.
+/// A stream of the system that is written. Nothing is told of its bytes, and a call that was
+/// interrupted (`ErrorKind::Interrupted`) counts as a fault. So does one that takes none of some
+/// bytes.
 #[derive(Drop)]
 pub struct HostSink<W> {
     writer: W,

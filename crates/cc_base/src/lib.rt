@@ -1,5 +1,5 @@
-//! What lies outside the program: files, input, output and links as traits, reading and writing over them, and their
-//! implementations over memory and over the real system.
+//! What lies outside the program: files, input, output and links as traits, reading and writing
+//! over them, and their implementations over memory and over the real system.
 #![tactic(auto)]
 
 mod failing;

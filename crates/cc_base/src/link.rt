@@ -7,10 +7,12 @@ use crate::{Failed, ReadFault, Sink, Source, WriteFault, read_some, write_all_of
 /// A source and a sink, each of which tells of the other what its own calls leave alone.
 pub trait Link: Source + Sink {
     /// Beside the reading side lies the writing side.
-    ghost beside_source: { (x : Self) → Self.Source.beside x ≡ (Self.Sink.faults x, Self.Sink.written x) };
+    ghost beside_source: { (x : Self)
+        → Self.Source.beside x ≡ (Self.Sink.faults x, Self.Sink.written x) };
 
     /// Beside the writing side lies the reading side.
-    ghost beside_sink: { (x : Self) → Self.Sink.beside x ≡ (Self.Source.faults x, Self.Source.left x) };
+    ghost beside_sink: { (x : Self)
+        → Self.Sink.beside x ≡ (Self.Source.faults x, Self.Source.left x) };
 }
 
 /// A link of any source and any sink.
@@ -94,7 +96,8 @@ pub fn read_link<L: Link>(link: &mut L, buf: &mut [u8]) -> Result<usize, ReadFau
     read_some(link, buf)
 }
 
-/// Writes all the bytes to a link, as [`write_all_of`] does. Nothing changes that is told of the reading side.
+/// Writes all the bytes to a link, as [`write_all_of`] does. Nothing changes that is told of the
+/// reading side.
 ///
 /// # Errors
 ///
@@ -102,7 +105,8 @@ pub fn read_link<L: Link>(link: &mut L, buf: &mut [u8]) -> Result<usize, ReadFau
 pub fn write_link<L: Link>(link: &mut L, bytes: &[u8]) -> Result<(), WriteFault>
     ensures cause { HasCause (L.Sink.faults link.old) (L.Sink.faults link.new) result }
     ensures written { OnOk result (L.written link.new ≡ appended (L.written link.old) bytes.now) }
-    ensures prefix { OnErr result (IsPrefixOut (L.written link.old) (L.written link.new) bytes.now) }
+    ensures prefix { OnErr result
+        (IsPrefixOut (L.written link.old) (L.written link.new) bytes.now) }
 
     // the reading side
     ensures left { L.left link.new ≡ L.left link.old }

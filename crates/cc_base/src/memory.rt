@@ -101,8 +101,8 @@ pub struct MemoryFile {
     pub bytes: Vec<u8>,
 }
 
-/// Files in memory. A call fails for an absent name, for a file that is too long, and for want of memory. The first two
-/// count as faults.
+/// Files in memory. A call fails for an absent name, for a file that is too long, and for want of
+/// memory. The first two count as faults.
 ///
 /// The name of each call is kept, whatever its answer, unless there is no room for it.
 #[derive(Drop)]
@@ -163,14 +163,18 @@ impl Files for MemoryFiles {
     ghost log = { λ m. Some (map string_bytes m.names.items) };
 
     fn load(&mut self, alloc: Global, name: &str) -> Result<Vec<u8>, FileFault>
+        // It fails for an absent file and for one that is too long alone, and counts that.
         ensures refused { IsErrOf result FileFault.Failed
             ↔ IsRefused (⟦<Self as Files>⟧.contents self.old name.now) }
         ensures later { self.old.faults ≤ self.new.faults }
         ensures cause { IsErrOf result FileFault.Failed → HasRisen self.old.faults self.new.faults }
+        // What is loaded is the file.
         ensures bytes { IfOk result
             (λ v. IfSome (⟦<Self as Files>⟧.contents self.old name.now) (λ told. v.items ≡ told)) }
         ensures long { IfOk result (λ v. length v.items ≤ 67108864) }
-        ensures contents { ⟦<Self as Files>⟧.contents self.new ≡ ⟦<Self as Files>⟧.contents self.old }
+        // No file changes, and what was loaded is told.
+        ensures contents { ⟦<Self as Files>⟧.contents self.new
+            ≡ ⟦<Self as Files>⟧.contents self.old }
         ensures logged { IsLogged (⟦<Self as Files>⟧.log self.old) (⟦<Self as Files>⟧.log self.new)
             name.now result }
     {

@@ -66,11 +66,13 @@ pub trait Source {
     /// What a link tells of its other side.
     ghost beside: { Self → Beside };
 
-    /// Puts the next bytes at the front of the buffer, and answers how many. `Ok(0)` is the end of the input.
+    /// Puts the next bytes at the front of the buffer, and answers how many. `Ok(0)` is the end of
+    /// the input.
     ///
     /// # Errors
     ///
-    /// `Failed` where the call fails. No byte is lost then: a later call gives what this one would have given.
+    /// `Failed` where the call fails. No byte is lost then: a later call gives what this one would
+    /// have given.
     fn read(&mut self, buf: &mut [u8]) -> Result<usize, Failed>
         requires { 0 < length buf.old }
         ensures cause { HasCause (faults self.old) (faults self.new) result }
@@ -115,16 +117,17 @@ pub trait Files {
     /// The contents of the file of each name, where they are told.
     ghost contents: { Self → List ℕ → Option (List ℕ) };
 
-    /// The names of the files that were loaded, in the order of the calls, where they are told. A call that failed may
-    /// have left its name there too.
+    /// The names of the files that were loaded, in the order of the calls, where they are told. A
+    /// call that failed may have left its name there too.
     ghost log: { Self → Option (List (List ℕ)) };
 
     /// All the bytes of a file.
     ///
     /// # Errors
     ///
-    /// `FileFault::Failed` where no file has this name, where it is longer than [`MAX_FILE_LEN`] bytes (67,108,864),
-    /// and where it cannot be read. `FileFault::Memory` where there is no room for its bytes, which is no fault.
+    /// `FileFault::Failed` where no file has this name, where it is longer than [`MAX_FILE_LEN`]
+    /// bytes (67,108,864), and where it cannot be read. `FileFault::Memory` where there is no room
+    /// for its bytes, which is no fault.
     fn load(&mut self, alloc: Global, name: &str) -> Result<Vec<u8>, FileFault>
         ensures later { faults self.old ≤ faults self.new }
         ensures cause { IsErrOf result FileFault.Failed
@@ -136,7 +139,8 @@ pub trait Files {
         ensures logged { IsLogged (log self.old) (log self.new) name.now result };
 }
 
-/// Reads once: the next bytes stand at the front of the buffer, as many as answered. `Ok(0)` is the end of the input.
+/// Reads once: the next bytes stand at the front of the buffer, as many as answered. `Ok(0)` is the
+/// end of the input.
 ///
 /// # Errors
 ///
@@ -164,7 +168,8 @@ pub fn read_some<S: Source>(source: &mut S, buf: &mut [u8]) -> Result<usize, Rea
 pub fn write_all_of<S: Sink>(sink: &mut S, bytes: &[u8]) -> Result<(), WriteFault>
     ensures cause { HasCause (S.faults sink.old) (S.faults sink.new) result }
     ensures written { OnOk result (S.written sink.new ≡ appended (S.written sink.old) bytes.now) }
-    ensures prefix { OnErr result (IsPrefixOut (S.written sink.old) (S.written sink.new) bytes.now) }
+    ensures prefix { OnErr result
+        (IsPrefixOut (S.written sink.old) (S.written sink.new) bytes.now) }
     ensures beside { S.beside sink.new ≡ S.beside sink.old }
 {
     let mut done = 0;

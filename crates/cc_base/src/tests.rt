@@ -1,4 +1,5 @@
-// What a run gives: pieces and prefixes, the end of the input, absent files, and the system's files and streams.
+// What a run gives: pieces and prefixes, the end of the input, absent files, and the system's files
+// and streams.
 ghost use Rattle.std.specs.Prelude.{◌<◌, ◌≤◌, None, length};
 
 use super::*;

@@ -44,8 +44,8 @@ fn lists_text(alloc: Global, case: &Case, book: &Book<MemoryCluster>) -> Result<
     })
 }
 
-/// What `apply` makes of what a file means: it carries a request out, by a book of the file's cluster, and tells the lists that this
-/// leaves, or the goal that fails.
+/// What `apply` makes of what a file means: it carries a request out, by a book of the file's
+/// cluster, and tells the lists that this leaves, or the goal that fails.
 pub fn apply<R: Threads + Sync>(
     rt: &R,
     alloc: Global,

@@ -24,7 +24,8 @@ fn fault_text(alloc: Global, turn: usize, action: usize, name: &str) -> Result<V
     Ok(line)
 }
 
-/// What `check` makes of the bytes of a trace, for a cluster and a list of goals: that it is good, or its first fault.
+/// What `check` makes of the bytes of a trace, for a cluster and a list of goals: that it is good,
+/// or its first fault.
 pub fn judge<R: Threads + Sync>(
     rt: &R,
     alloc: Global,

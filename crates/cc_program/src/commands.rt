@@ -77,8 +77,9 @@ fn rebalance(alloc: Global, goals: Goals, excluded: Vec<Topic>) -> Result<Planni
 ///
 /// # Errors
 ///
-/// `WordsFault::Usage` where they ask none: where they mean no command, where the names of its goals are refused, and where the
-/// command belongs to a run with threads or a listener. `WordsFault::Memory` out of memory.
+/// `WordsFault::Usage` where they ask none: where they mean no command, where the names of its
+/// goals are refused, and where the command belongs to a run with threads or a listener.
+/// `WordsFault::Memory` out of memory.
 pub fn read_request(alloc: Global, words: &[String]) -> Result<Request, WordsFault>
     ensures ok { IfOk result (λ r. command (map string_bytes words.now) ≡ Some (asked r)) }
     ensures usage { IfErr result

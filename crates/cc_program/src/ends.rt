@@ -63,7 +63,8 @@ fn line(end: &End) -> &[u8]
     }
 }
 
-/// Writes the end's line to the error stream, and answers its status. A fault of that stream changes nothing else.
+/// Writes the end's line to the error stream, and answers its status. A fault of that stream
+/// changes nothing else.
 pub fn conclude<O: Sink>(err: &mut O, end: &End) -> u8
     ensures status { result ≡ status_of end.now }
     ensures told { IsTold (line_of end.now) (O.written err.old) (O.written err.new)

@@ -76,7 +76,8 @@ pub fn summary<R: Threads + Sync>(
     }
 }
 
-/// What `gen` makes of a cluster that was made: its file; or the summary of a plan for it, or of the goal that fails.
+/// What `gen` makes of a cluster that was made: its file; or the summary of a plan for it, or of
+/// the goal that fails.
 pub fn generated<R: Threads + Sync>(
     rt: &R,
     alloc: Global,

@@ -14,8 +14,8 @@ use plan_terms::{Caps, Memory};
 use std::alloc::Global;
 use user_tasks::Ask;
 
-/// A cluster with the loads to plan for, the replica list of each of its partitions, and how many movements there may be at a
-/// time.
+/// A cluster with the loads to plan for, the replica list of each of its partitions, and how many
+/// movements there may be at a time.
 #[derive(Drop)]
 pub struct Loaded {
     pub case: Case,
@@ -23,7 +23,8 @@ pub struct Loaded {
     pub caps: Caps,
 }
 
-/// What is planned for, for a request: the file's cluster with the loads of its samples, as the request sees it.
+/// What is planned for, for a request: the file's cluster with the loads of its samples, as the
+/// request sees it.
 #[tactic(auto, unfolding(crate::specs::Input::planned_for, crate::specs::Input::loaded_cluster))]
 pub fn loaded_for(alloc: Global, file: ClusterFile, ask: &Ask) -> Result<Loaded, Memory>
     requires { IsFile file }

@@ -31,7 +31,8 @@ use std::alloc::Global;
 use std::sync::Wait;
 use std::thread::Threads;
 
-/// Who works over a book: movers and planners, and the links that are served. Without links the requests are those of the console.
+/// Who works over a book: movers and planners, and the links that are served. Without links the
+/// requests are those of the console.
 #[derive(Drop)]
 pub struct Crew {
     pub workers: Workers,
@@ -174,7 +175,8 @@ fn any_want<C>(links: &[Served<C>]) -> bool
     links.iter().any(|served| is_want(served.end))
 }
 
-// How a run ends whose front and drain ended so, where there was memory to go on with each link, or wasn't.
+// How a run ends whose front and drain ended so, where there was memory to go on with each link, or
+// wasn't.
 fn ended_live(front: FrontEnd, want: bool, drain: DrainEnd) -> End
     ensures { result ≡ ended_live front want drain }
 {
@@ -186,7 +188,8 @@ fn ended_live(front: FrontEnd, want: bool, drain: DrainEnd) -> End
     }
 }
 
-// Runs a service over a book that was just begun. The copier behind those of the movers and of the links is that of the console.
+// Runs a service over a book that was just begun. The copier behind those of the movers and of the
+// links is that of the console.
 fn live<
     A: Admin + Send,
     K: Copier + Send + Drop,
@@ -274,7 +277,8 @@ where
     (ended, left)
 }
 
-// Begins a book of a file that was loaded, and runs a service over it. Room for the links is taken first.
+// Begins a book of a file that was loaded, and runs a service over it. Room for the links is taken
+// first.
 fn begin<
     A: Admin + Send,
     K: Copier + Send + Drop,
@@ -386,11 +390,13 @@ where
     run(rt, alloc, words, files, admin, outside)
 }
 
-/// Runs `session` beside movers and planners, or `serve`, over a book that requests, movers and planners share, and answers with its
-/// status: 0 where it is done, 2 for words that are no such command or ask for more movers and links than there are copiers beside that
-/// of the console, 3 for a file that is refused, 5 for a fault of the files, 6 and 7 for a fault of the input and of the output, 8 where
-/// the admin's fault left work unfinished, 9 out of memory, 10 for an input that ended inside a request or couldn't be framed, and 12
-/// for a fault of the listener. `serve` neither reads nor writes the console, and a link that ends by a fault changes no status. One
+/// Runs `session` beside movers and planners, or `serve`, over a book that requests, movers and
+/// planners share, and answers with its status: 0 where it is done, 2 for words that are no such
+/// command or ask for more movers and links than there are copiers beside that of the console, 3
+/// for a file that is refused, 5 for a fault of the files, 6 and 7 for a fault of the input and of
+/// the output, 8 where the admin's fault left work unfinished, 9 out of memory, 10 for an input
+/// that ended inside a request or couldn't be framed, and 12 for a fault of the listener. `serve`
+/// neither reads nor writes the console, and a link that ends by a fault changes no status. One
 /// line on any end but 0 goes to `err`.
 pub fn run_live<
     F: Files,
@@ -411,7 +417,8 @@ pub fn run_live<
 ) -> Ended<A, K, L, N>
 where
     N::Conn: Send + Drop,
-    // How it ended, with what stands behind that end, and its line on the error stream, or a prefix of the line where that fails.
+    // How it ended, with what stands behind that end, and its line on the error stream, or a prefix
+    // of the line where that fails.
     ensures ended { (end : End) × (result.status ≡ status_of end)
         × Leaves (gate A.faults A.told) (map string_bytes words.now)
         (shelf F.contents F.faults F.log files.old files.new)
@@ -424,12 +431,14 @@ where
     ensures statuses { (result.status ≡ 0) ⊎ (result.status ≡ 2) ⊎ (result.status ≡ 3)
         ⊎ (result.status ≡ 5) ⊎ (result.status ≡ 6) ⊎ (result.status ≡ 7) ⊎ (result.status ≡ 8)
         ⊎ (result.status ≡ 9) ⊎ (result.status ≡ 10) ⊎ (result.status ≡ 12) }
-    // 2: only where the words are no such command, or ask for too many copiers, and there unless memory runs out.
+    // 2: only where the words are no such command, or ask for too many copiers, and there unless
+    // memory runs out.
     ensures usage { result.status ≡ 2
         → IsUnasked (map string_bytes words.now) (vec_len outside.copiers) }
     ensures refuses_words { IsUnasked (map string_bytes words.now) (vec_len outside.copiers)
         → (result.status ≡ 2) ⊎ (result.status ≡ 9) }
-    // 3: only where the file has a fault, whose line is told, and there unless the words, the files or memory stand in the way.
+    // 3: only where the file has a fault, whose line is told, and there unless the words, the files
+    // or memory stand in the way.
     ensures refused { result.status ≡ 3
         → (line : List ℕ)
         × IsLiveRefusal (map string_bytes words.now)
@@ -440,7 +449,8 @@ where
         → live_command (map string_bytes words.now) ≡ Some asked
         → F.contents files.old asked.file ≡ Some bytes → IsRefused bytes fault
         → (result.status ≡ 2) ⊎ (result.status ≡ 3) ⊎ (result.status ≡ 5) ⊎ (result.status ≡ 9) }
-    // 5, 6, 7 and 12: only where the count of the files, of the input, of the output or of the listener rose.
+    // 5, 6, 7 and 12: only where the count of the files, of the input, of the output or of the
+    // listener rose.
     ensures files { result.status ≡ 5 → HasRisen (F.faults files.old) (F.faults files.new) }
     ensures input { result.status ≡ 6
         → HasRisen (L.Source.faults outside.console) (L.Source.faults result.left.outside.console) }

@@ -5,7 +5,8 @@ ghost use Rattle.core_terms.specs.Asked.{goals_fault, goals_of, is_dry};
 use goal_set::GoalList;
 use user_tasks::Ask;
 
-/// A plan that is asked for, with its goals. As a request it names no broker, and would be carried out.
+/// A plan that is asked for, with its goals. As a request it names no broker, and would be carried
+/// out.
 #[derive(Drop)]
 pub struct Planning {
     pub ask: Ask,

@@ -58,7 +58,8 @@ fn changes_text(
 fn plan_text(alloc: Global, loaded: &Loaded, plan: &Plan, trace: bool) -> Result<Vec<u8>, Memory>
     requires before { Belongs loaded.now.case loaded.now.lists }
     requires after { Belongs loaded.now.case plan.now.end }
-    ensures { IfOk result (λ text. text.items ≡ plan_text trace (cluster_lists loaded.now) plan.now) }
+    ensures { IfOk result (λ text. text.items
+        ≡ plan_text trace (cluster_lists loaded.now) plan.now) }
 {
     if trace {
         return ended(trace_text(alloc, plan.trace())?);
@@ -147,7 +148,8 @@ fn planned<R: Threads + Sync>(
     }
 }
 
-/// What `plan` makes of what a file means: the text of a plan, or the goal that fails; or the trace of either.
+/// What `plan` makes of what a file means: the text of a plan, or the goal that fails; or the trace
+/// of either.
 pub fn plan<R: Threads + Sync>(
     rt: &R,
     alloc: Global,

@@ -62,7 +62,8 @@ fn source<F: Files>(alloc: Global, files: &mut F, request: &Request) -> Result<V
     ensures bytes { IfOk result (λ v. IfSome (source_of (F.contents files.old) (asked request.now))
         (λ told. v.items ≡ told)) }
     ensures contents { F.contents files.new ≡ F.contents files.old }
-    ensures read { OnOk result (F.log files.new ≡ with_source (F.log files.old) (asked request.now)) }
+    ensures read { OnOk result (F.log files.new
+        ≡ with_source (F.log files.old) (asked request.now)) }
     ensures failed { OnErr result ((F.log files.new ≡ F.log files.old)
         ⊎ (F.log files.new ≡ with_source (F.log files.old) (asked request.now))) }
 {
@@ -176,16 +177,20 @@ fn run<F: Files, L: Link, R: Threads + Sync>(
     files: &mut F,
     console: &mut L,
 ) -> End
+    // Counts never fall.
     ensures files { F.faults files.old ≤ F.faults files.new }
     ensures out { L.Sink.faults console.old ≤ L.Sink.faults console.new }
+    // What each end says.
     ensures runs { Runs (map string_bytes words.now)
         (edge_told F.Files L.Source L.Sink files.old files.new console.old console.new) result }
+    // Which files were loaded.
     ensures logs { Logs (map string_bytes words.now) (F.log files.old) (F.log files.new) result }
     ensures alone { (asked : Asked) (bytes : List ℕ) (fault : Fault)
         → command (map string_bytes words.now) ≡ Some asked
         → source_of (F.contents files.old) asked ≡ Some bytes → IsRefused bytes fault
         → (F.log files.new ≡ F.log files.old)
         ⊎ (F.log files.new ≡ with_source (F.log files.old) asked) }
+    // What was read.
     ensures input { AsksSession (map string_bytes words.now)
         ⊎ ((L.left console.new ≡ L.left console.old)
         × (L.Source.faults console.new ≡ L.Source.faults console.old)) }
@@ -204,14 +209,17 @@ fn run<F: Files, L: Link, R: Threads + Sync>(
     }
 }
 
-/// Runs a command that waits for nobody, and answers the exit status: 0 where it is done, 2 for words that are no command,
-/// 3 for a cluster's text that is refused, 4 for a hard goal that fails, 5 for a fault of the files, 6 and 7 for a fault of the input and of
-/// the output, 9 for want of memory, 10 for an input that ended inside a request or couldn't be framed, and 11 for a trace that is
-/// refused. An answer goes to the console once it is whole in memory; a session's replies go there one after another. One line on any
-/// end but 0 goes to `err`; what becomes of that line changes nothing.
+/// Runs a command that waits for nobody, and answers the exit status: 0 where it is done, 2 for
+/// words that are no command, 3 for a cluster's text that is refused, 4 for a hard goal that fails,
+/// 5 for a fault of the files, 6 and 7 for a fault of the input and of the output, 9 for want of
+/// memory, 10 for an input that ended inside a request or couldn't be framed, and 11 for a trace
+/// that is refused. An answer goes to the console once it is whole in memory; a session's replies
+/// go there one after another. One line on any end but 0 goes to `err`; what becomes of that line
+/// changes nothing.
 ///
-/// The console is the input and the output, as one link. What is said of contents, and of which files were loaded, holds where
-/// `files` and the console tell it, as those over memory do. Only a session reads the input.
+/// The console is the input and the output, as one link. What is said of contents, and of which
+/// files were loaded, holds where `files` and the console tell it, as those over memory do. Only a
+/// session reads the input.
 pub fn run_quiet<R: Threads + Sync, F: Files, L: Link, O: Sink>(
     rt: &R,
     alloc: Global,
@@ -220,7 +228,8 @@ pub fn run_quiet<R: Threads + Sync, F: Files, L: Link, O: Sink>(
     console: &mut L,
     err: &mut O,
 ) -> u8
-    // How it ended, with what stands behind that end, and its line on the error stream, or a prefix of the line where that fails.
+    // How it ended, with what stands behind that end, and its line on the error stream, or a prefix
+    // of the line where that fails.
     ensures ended { (end : End) × (result ≡ status_of end)
         × Runs (map string_bytes words.now)
         (edge_told F.Files L.Source L.Sink files.old files.new console.old console.new) end
@@ -228,7 +237,8 @@ pub fn run_quiet<R: Threads + Sync, F: Files, L: Link, O: Sink>(
         (O.faults err.new) }
     ensures statuses { (result ≡ 0) ⊎ (result ≡ 2) ⊎ (result ≡ 3) ⊎ (result ≡ 4) ⊎ (result ≡ 5)
         ⊎ (result ≡ 6) ⊎ (result ≡ 7) ⊎ (result ≡ 9) ⊎ (result ≡ 10) ⊎ (result ≡ 11) }
-    // 0: the output grew by a text that the command makes of what its cluster's text means; or the session was served to its end and drained.
+    // 0: the output grew by a text that the command makes of what its cluster's text means; or the
+    // session was served to its end and drained.
     ensures done { result ≡ 0 → Ran (map string_bytes words.now)
         (edge_told F.Files L.Source L.Sink files.old files.new console.old console.new) End.Done }
     // 11: it grew by the first fault of a trace that isn't good for what the file means.
@@ -247,7 +257,8 @@ pub fn run_quiet<R: Threads + Sync, F: Files, L: Link, O: Sink>(
         → Ran (map string_bytes words.now)
         (edge_told F.Files L.Source L.Sink files.old files.new console.old console.new)
         End.InputCut }
-    // 7: only where the output's count rose. A prefix of such a text is out, or of a session's replies.
+    // 7: only where the output's count rose. A prefix of such a text is out, or of a session's
+    // replies.
     ensures prefix { result ≡ 7
         → Ran (map string_bytes words.now)
         (edge_told F.Files L.Source L.Sink files.old files.new console.old console.new)
@@ -257,7 +268,8 @@ pub fn run_quiet<R: Threads + Sync, F: Files, L: Link, O: Sink>(
     ensures usage { result ≡ 2 → command (map string_bytes words.now) ≡ None }
     ensures refuses_words { command (map string_bytes words.now) ≡ None
         → (result ≡ 2) ⊎ (result ≡ 9) }
-    // 3: only where the file, or the text that is made, has a fault, whose line is told, and there unless the files or memory fail.
+    // 3: only where the file, or the text that is made, has a fault, whose line is told, and there
+    // unless the files or memory fail.
     ensures refused { result ≡ 3
         → (line : List ℕ) × IsRefusal (map string_bytes words.now) (F.contents files.old) line
         × IsTold line (O.written err.old) (O.written err.new) (O.faults err.old)
@@ -274,7 +286,8 @@ pub fn run_quiet<R: Threads + Sync, F: Files, L: Link, O: Sink>(
         → L.written console.new ≡ L.written console.old }
     ensures memory { result ≡ 9 → (L.written console.new ≡ L.written console.old)
         ⊎ AsksSession (map string_bytes words.now) }
-    // FILE is loaded before TRACE, and nothing else is. 0, 4, 6, 7, 10 and 11: all files of the command, in their order.
+    // FILE is loaded before TRACE, and nothing else is. 0, 4, 6, 7, 10 and 11: all files of the
+    // command, in their order.
     ensures loaded { (result ≡ 0) ⊎ (result ≡ 4) ⊎ (result ≡ 6) ⊎ (result ≡ 7) ⊎ (result ≡ 10)
         ⊎ (result ≡ 11)
         → LoadsAll (map string_bytes words.now) (F.log files.old) (F.log files.new) }
@@ -287,7 +300,8 @@ pub fn run_quiet<R: Threads + Sync, F: Files, L: Link, O: Sink>(
         → source_of (F.contents files.old) asked ≡ Some bytes → IsRefused bytes fault
         → (F.log files.new ≡ F.log files.old)
         ⊎ (F.log files.new ≡ with_source (F.log files.old) asked) }
-    // 0, 4 of a plan, 11 of a trace, or 9: wherever all that was given is as it should be, and no call outside failed.
+    // 0, 4 of a plan, 11 of a trace, or 9: wherever all that was given is as it should be, and no
+    // call outside failed.
     ensures complete { (asked : Asked)
         → IsWellGiven (map string_bytes words.now)
         (edge_told F.Files L.Source L.Sink files.old files.new console.old console.new) asked

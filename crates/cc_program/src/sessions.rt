@@ -49,7 +49,8 @@ fn serve<L: Link, R: Threads + Sync>(
     console: &mut L,
 ) -> End
     requires { book.old ≡ opened book.old.file book.old.admin }
-    ensures did { DidSession book.old.file (io_told L.Source L.Sink console.old console.new) result }
+    ensures did { DidSession book.old.file
+        (io_told L.Source L.Sink console.old console.new) result }
     ensures drained { result ≢ End.NotDrained }
     ensures source { L.Source.faults console.old ≤ L.Source.faults console.new }
     ensures sink { L.Sink.faults console.old ≤ L.Sink.faults console.new }
@@ -61,8 +62,8 @@ fn serve<L: Link, R: Threads + Sync>(
     ended_by(ended)
 }
 
-/// Answers the requests of the input over a book of the file's cluster in memory, asks Close, and makes rounds until nothing is
-/// unfinished. The replies go to the output one after another.
+/// Answers the requests of the input over a book of the file's cluster in memory, asks Close, and
+/// makes rounds until nothing is unfinished. The replies go to the output one after another.
 pub fn session<L: Link, R: Threads + Sync>(
     rt: &R,
     alloc: Global,

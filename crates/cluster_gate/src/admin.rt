@@ -40,8 +40,8 @@ impl From<Memory> for InstallFault {
     }
 }
 
-/// The replica lists of a cluster, one for each partition. A list that is written replaces the partition's whole list, as
-/// KIP-455 has it of a reassignment.
+/// The replica lists of a cluster, one for each partition. A list that is written replaces the
+/// partition's whole list, as KIP-455 has it of a reassignment.
 pub trait Admin {
     /// How many calls have failed.
     ghost faults: { Self → ℕ };
@@ -56,8 +56,8 @@ pub trait Admin {
     ///
     /// # Errors
     ///
-    /// `InstallFault::Failed` where the call fails, `InstallFault::Memory` where there is no room for the lists, which is no
-    /// fault. No list is changed then.
+    /// `InstallFault::Failed` where the call fails, `InstallFault::Memory` where there is no room
+    /// for the lists, which is no fault. No list is changed then.
     fn install(&mut self, alloc: Global, lists: &Assign) -> Result<(), InstallFault>
         ensures later { faults self.old ≤ faults self.new }
         ensures cause { IsErrOf result InstallFault.Failed
@@ -67,7 +67,8 @@ pub trait Admin {
         ensures failed { OnErr result
             ((parts self.new ≡ parts self.old) × (told self.new ≡ told self.old)) };
 
-    /// Sets the list of one partition to the union of its old and its new list, with which the copies begin. Takes no memory.
+    /// Sets the list of one partition to the union of its old and its new list, with which the
+    /// copies begin. Takes no memory.
     ///
     /// # Errors
     ///
@@ -80,7 +81,8 @@ pub trait Admin {
         ensures lists { OnOk result (told self.new ≡ with_list (told self.old) part union.now) }
         ensures failed { OnErr result (told self.new ≡ told self.old) };
 
-    /// Sets the list of one partition to its new list, with which the reassignment is done. Takes no memory.
+    /// Sets the list of one partition to its new list, with which the reassignment is done. Takes
+    /// no memory.
     ///
     /// # Errors
     ///
@@ -93,7 +95,8 @@ pub trait Admin {
         ensures lists { OnOk result (told self.new ≡ with_list (told self.old) part after.now) }
         ensures failed { OnErr result (told self.new ≡ told self.old) };
 
-    /// Sets the list of one partition back to its old list, with which the reassignment is given up. Takes no memory.
+    /// Sets the list of one partition back to its old list, with which the reassignment is given
+    /// up. Takes no memory.
     ///
     /// # Errors
     ///

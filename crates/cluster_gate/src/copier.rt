@@ -53,8 +53,8 @@ pub trait Copier {
     ///
     /// # Errors
     ///
-    /// `CopyFault::Failed` where the copy fails, `CopyFault::Memory` where there is no memory for it, which is no fault. No
-    /// copy is made then.
+    /// `CopyFault::Failed` where the copy fails, `CopyFault::Memory` where there is no memory for
+    /// it, which is no fault. No copy is made then.
     fn copy(&mut self, part: u32, to: u32, chunk: u32) -> Result<(), CopyFault>
         ensures later { faults self.old ≤ faults self.new }
         ensures cause { IsErrOf result CopyFault.Failed
@@ -116,7 +116,8 @@ impl Receipt {
 ///
 /// # Errors
 ///
-/// `CopyFault::Failed` where the copier failed, `CopyFault::Memory` for want of memory. No copy is made then.
+/// `CopyFault::Failed` where the copier failed, `CopyFault::Memory` for want of memory. No copy is
+/// made then.
 pub fn copy_chunk<K: Copier>(
     copier: &mut K,
     lease: u64,

@@ -48,12 +48,15 @@ impl<A: Admin> Admin for FailingAdmin<A> {
     ghost told = { λ f. A.told f.inner };
 
     fn install(&mut self, alloc: Global, lists: &Assign) -> Result<(), InstallFault>
+        // A call that is to fail does, and installs nothing. Each call is counted.
         ensures fails { IsListed self.old.calls → IsErrOf result InstallFault.Failed }
         ensures kept { IsListed self.old.calls → self.new.inner ≡ self.old.inner }
         ensures counts { CountsCall self.old.calls self.new.calls }
+        // It fails in no other way than the cluster does, and each fault is counted.
         ensures later { ⟦<Self as Admin>⟧.faults self.old ≤ ⟦<Self as Admin>⟧.faults self.new }
         ensures cause { IsErrOf result InstallFault.Failed
             → HasRisen (⟦<Self as Admin>⟧.faults self.old) (⟦<Self as Admin>⟧.faults self.new) }
+        // The lists are those that were given, or stay as they were.
         ensures parts { OnOk result (A.parts self.new.inner ≡ length lists.now) }
         ensures lists { OnOk result
             (A.told self.new.inner ≡ installed (A.told self.old.inner) lists.now) }
@@ -70,11 +73,14 @@ impl<A: Admin> Admin for FailingAdmin<A> {
     fn begin(&mut self, part: u32, union: &[u32]) -> Result<(), Failed>
         requires installed { part < A.parts self.old.inner }
         requires few { length union.now ≤ 16 }
+        // A call that is to fail does, and writes nothing. Each call is counted.
         ensures fails { IsListed self.old.calls → IsErr result }
         ensures kept { IsListed self.old.calls → self.new.inner ≡ self.old.inner }
         ensures counts { CountsCall self.old.calls self.new.calls }
+        // It fails in no other way than the cluster does, and each fault is counted.
         ensures cause { HasCause (⟦<Self as Admin>⟧.faults self.old)
             (⟦<Self as Admin>⟧.faults self.new) result }
+        // One list is the one that was given, or all stay as they were.
         ensures parts { A.parts self.new.inner ≡ A.parts self.old.inner }
         ensures lists { OnOk result
             (A.told self.new.inner ≡ with_list (A.told self.old.inner) part union.now) }
@@ -89,11 +95,14 @@ impl<A: Admin> Admin for FailingAdmin<A> {
     fn commit(&mut self, part: u32, after: &[u32]) -> Result<(), Failed>
         requires installed { part < A.parts self.old.inner }
         requires few { length after.now ≤ 16 }
+        // A call that is to fail does, and writes nothing. Each call is counted.
         ensures fails { IsListed self.old.calls → IsErr result }
         ensures kept { IsListed self.old.calls → self.new.inner ≡ self.old.inner }
         ensures counts { CountsCall self.old.calls self.new.calls }
+        // It fails in no other way than the cluster does, and each fault is counted.
         ensures cause { HasCause (⟦<Self as Admin>⟧.faults self.old)
             (⟦<Self as Admin>⟧.faults self.new) result }
+        // One list is the one that was given, or all stay as they were.
         ensures parts { A.parts self.new.inner ≡ A.parts self.old.inner }
         ensures lists { OnOk result
             (A.told self.new.inner ≡ with_list (A.told self.old.inner) part after.now) }
@@ -108,11 +117,14 @@ impl<A: Admin> Admin for FailingAdmin<A> {
     fn cancel(&mut self, part: u32, before: &[u32]) -> Result<(), Failed>
         requires installed { part < A.parts self.old.inner }
         requires few { length before.now ≤ 16 }
+        // A call that is to fail does, and writes nothing. Each call is counted.
         ensures fails { IsListed self.old.calls → IsErr result }
         ensures kept { IsListed self.old.calls → self.new.inner ≡ self.old.inner }
         ensures counts { CountsCall self.old.calls self.new.calls }
+        // It fails in no other way than the cluster does, and each fault is counted.
         ensures cause { HasCause (⟦<Self as Admin>⟧.faults self.old)
             (⟦<Self as Admin>⟧.faults self.new) result }
+        // One list is the one that was given, or all stay as they were.
         ensures parts { A.parts self.new.inner ≡ A.parts self.old.inner }
         ensures lists { OnOk result
             (A.told self.new.inner ≡ with_list (A.told self.old.inner) part before.now) }
@@ -160,12 +172,15 @@ impl<K: Copier> Copier for FailingCopier<K> {
     ghost copies = { λ f. K.copies f.inner };
 
     fn copy(&mut self, part: u32, to: u32, chunk: u32) -> Result<(), CopyFault>
+        // A copy that is to fail does, and is not made. Each is counted.
         ensures fails { IsListed self.old.calls → IsErrOf result CopyFault.Failed }
         ensures kept { IsListed self.old.calls → self.new.inner ≡ self.old.inner }
         ensures counts { CountsCall self.old.calls self.new.calls }
+        // It fails in no other way than the copier does, and each fault is counted.
         ensures later { ⟦<Self as Copier>⟧.faults self.old ≤ ⟦<Self as Copier>⟧.faults self.new }
         ensures cause { IsErrOf result CopyFault.Failed
             → HasRisen (⟦<Self as Copier>⟧.faults self.old) (⟦<Self as Copier>⟧.faults self.new) }
+        // The copy is told, or none is.
         ensures made { OnOk result
             (K.copies self.new.inner
             ≡ with_copy (K.copies self.old.inner)

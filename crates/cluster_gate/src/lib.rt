@@ -1,5 +1,5 @@
-//! The cluster as the service changes it: where lists are written and replicas are copied, as traits, with
-//! implementations over memory.
+//! The cluster as the service changes it: where lists are written and replicas are copied, as
+//! traits, with implementations over memory.
 #![tactic(auto)]
 
 mod admin;

@@ -31,21 +31,22 @@ fn cluster_value(
     })
 }
 
-/// The cluster file that a seed makes, as compact JSON whose keys stand in the order of their bytes. It depends on
-/// nothing but its arguments.
+/// The cluster file that a seed makes, as compact JSON whose keys stand in the order of their
+/// bytes. It depends on nothing but its arguments.
 ///
-/// Brokers have the ids from 0 on, in the racks `r0` to `r3` in turn. Each broker has the same capacity: processor
-/// 10000, disk 500000, network in and out 50000. Partition i is partition i / 50 of the topic `t` followed by i modulo
-/// 50, with up to three replicas: brokers in a row from a drawn one on, where broker 0 follows the last. Its loads are
-/// drawn: network in below 100, network out below 200, processor below 10, disk below 1000. A follower has half of the
+/// Brokers have the ids from 0 on, in the racks `r0` to `r3` in turn. Each broker has the same
+/// capacity: processor 10000, disk 500000, network in and out 50000. Partition i is partition i /
+/// 50 of the topic `t` followed by i modulo 50, with up to three replicas: brokers in a row from a
+/// drawn one on, where broker 0 follows the last. Its loads are drawn: network in below 100,
+/// network out below 200, processor below 10, disk below 1000. A follower has half of the
 /// processor, rounded down, and no network out.
 ///
-/// The draws are those of a linear congruential generator: x becomes (1103515245 x + 12345) modulo 2^31, from the seed
-/// on, and a draw below m is (x / 65536) modulo m. Each partition takes five, in this order: first replica, network in,
-/// network out, processor, disk.
+/// The draws are those of a linear congruential generator: x becomes (1103515245 x + 12345) modulo
+/// 2^31, from the seed on, and a draw below m is (x / 65536) modulo m. Each partition takes five,
+/// in this order: first replica, network in, network out, processor, disk.
 ///
-/// The seed is below 2^31; there are 1 to 200 brokers and up to 10000 partitions. `Memory`: there is too little memory
-/// for the text.
+/// The seed is below 2^31; there are 1 to 200 brokers and up to 10000 partitions. `Memory`: there
+/// is too little memory for the text.
 pub fn cluster_text(
     alloc: Global,
     seed: u32,

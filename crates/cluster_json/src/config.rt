@@ -66,7 +66,8 @@ fn options_of(alloc: Global, config: Option<&Value>) -> Result<Options, Memory>
 
 #[tactic(auto, unfolding(crate::specs::Config::caps_of, crate::specs::Settings::whole_named))]
 fn caps_of(alloc: Global, config: Option<&Value>) -> Result<Caps, Memory>
-    ensures value { IfOk result (λ caps. caps ≡ caps_of (option_map (λ v. view v.now) config.entry)) }
+    ensures value { IfOk result
+        (λ caps. caps ≡ caps_of (option_map (λ v. view v.now) config.entry)) }
     ensures caps { IfOk result AreCaps }
 {
     let broker = whole_setting(

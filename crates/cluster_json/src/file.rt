@@ -224,9 +224,10 @@ fn read_file(alloc: Global, value: &Value) -> Result<ClusterFile, FileRefusal>
     load(alloc, members)
 }
 
-/// Reads a cluster file, or tells its first fault: bytes that are no JSON (RFC 8259); the version; then the members in the
-/// order `brokers`, `brokerCapacities`, `partitions`, `config`, `samples` and, in version 2, `minTopicLeaders`, lists by index and objects in the order of
-/// the documented table; and last what makes no cluster.
+/// Reads a cluster file, or tells its first fault: bytes that are no JSON (RFC 8259); the version;
+/// then the members in the order `brokers`, `brokerCapacities`, `partitions`, `config`, `samples`
+/// and, in version 2, `minTopicLeaders`, lists by index and objects in the order of the documented
+/// table; and last what makes no cluster.
 pub fn read_cluster(alloc: Global, bytes: &[u8]) -> Result<ClusterFile, FileRefusal>
     ensures means { Gives file_seen result (meaning_of bytes.now) }
     ensures file { IfOk result IsFile }

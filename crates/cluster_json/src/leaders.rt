@@ -79,7 +79,8 @@ fn read_entry<'v>(
     seen: &Seen<'_>,
     value: &'v Value,
 ) -> Result<Entry<'v>, FileRefusal>
-    ensures means { Gives entry_seen result (leaders_at (texts_seen seen.now.keys) (view value.now)) }
+    ensures means { Gives entry_seen result
+        (leaders_at (texts_seen seen.now.keys) (view value.now)) }
     ensures new { IfOk result
         (λ e. list_any (bytes_eq e.topic.now) (texts_seen seen.now.keys) ≡ false) }
 {

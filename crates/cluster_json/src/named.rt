@@ -52,8 +52,9 @@ fn read_named(alloc: Global, value: &Value) -> Result<NamedSample, FileRefusal>
     })
 }
 
-/// The sample that the bytes are, as a JSON object with the members `topic`, `partition`, `time` and `load`; others are
-/// ignored. Its partition may be one of no cluster. A refusal names the first fault, as in a cluster file.
+/// The sample that the bytes are, as a JSON object with the members `topic`, `partition`, `time`
+/// and `load`; others are ignored. Its partition may be one of no cluster. A refusal names the
+/// first fault, as in a cluster file.
 #[tactic(auto, unfolding(crate::specs::Named::named_of))]
 pub fn read_named_sample(alloc: Global, bytes: &[u8]) -> Result<NamedSample, FileRefusal>
     ensures means { Gives (λ s. s) result (named_of bytes.now) }

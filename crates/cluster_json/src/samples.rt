@@ -18,7 +18,8 @@ use serde_json::Value;
 use std::alloc::Global;
 use std::marker::Model;
 
-/// A sample whose partition may lie anywhere, until the number of partitions is known to be within its limit.
+/// A sample whose partition may lie anywhere, until the number of partitions is known to be within
+/// its limit.
 #[derive(Drop)]
 pub struct Placed {
     place: usize,

@@ -1,4 +1,5 @@
-//! The words of the command line: the command that they mean, with its options, and whether they want a run with threads.
+//! The words of the command line: the command that they mean, with its options, and whether they
+//! want a run with threads.
 #![tactic(auto)]
 
 mod arguments;

@@ -50,8 +50,8 @@ fn asks_workers(words: &[String]) -> bool
     false
 }
 
-/// Whether the words want a run with threads or a listener: `serve`, or `session` with movers or planners. They need not mean
-/// a command.
+/// Whether the words want a run with threads or a listener: `serve`, or `session` with movers or
+/// planners. They need not mean a command.
 pub fn wants_live(words: &[String]) -> bool
     ensures { result ≡ wants_live (map string_bytes words.now) }
 {

@@ -20,7 +20,8 @@ use core_terms::{Event, Reply, StepFault};
 use std::alloc::Global;
 use std::marker::Model;
 
-/// A service's book: its state, the journal of the events that it took, and the admin that it writes lists to.
+/// A service's book: its state, the journal of the events that it took, and the admin that it
+/// writes lists to.
 #[derive(Drop)]
 pub struct Book<A: Admin> {
     alloc: Global,
@@ -58,8 +59,8 @@ impl<A: Admin> Book<A> {
     ///
     /// # Errors
     ///
-    /// `InstallFault::Failed` where the admin's call fails, `InstallFault::Memory` out of memory. The admin is handed back, with
-    /// the lists that it had.
+    /// `InstallFault::Failed` where the admin's call fails, `InstallFault::Memory` out of memory.
+    /// The admin is handed back, with the lists that it had.
     pub fn begin(
         alloc: Global,
         file: ClusterFile,
@@ -96,17 +97,22 @@ impl<A: Admin> Book<A> {
         }
     }
 
-    /// Takes an event: answers it, and adds it to the journal. An error leaves the journal and the admin's lists as they were, and
-    /// hands the event back. Only Take, Commit and Cancel call the admin, and only while a task is unfinished. The events that end a
-    /// lease or a ticket which is out, and the first Close, take no memory.
+    /// Takes an event: answers it, and adds it to the journal. An error leaves the journal and the
+    /// admin's lists as they were, and hands the event back. Only Take, Commit and Cancel call the
+    /// admin, and only while a task is unfinished. The events that end a lease or a ticket which is
+    /// out, and the first Close, take no memory.
     pub fn step(&mut self, event: Event) -> Result<Reply, (StepFault, Event)>
+        // An event that is answered is the journal's last, and the reply is the rule's.
         ensures file { self.new.file ≡ self.old.file }
         ensures entry { OnOk result (self.new.journal ≡ self.old.journal ++ event ∷ []) }
         ensures reply { IfOk result (λ r. r ≡ reply_of self.old.file (state_of self.old) event) }
+        // On a fault neither the journal nor the admin's lists changed.
         ensures unchanged { OnErr result (self.new.journal ≡ self.old.journal) }
         ensures handed_back { IfErr result (λ e. e.1 ≡ event) }
         ensures told { OnErr result (A.told self.new.admin ≡ A.told self.old.admin) }
+        // When there may be one.
         ensures fault { IfErr result (λ e. IsStepFault A.faults self.old event self.new e.0) }
+        // Counts.
         ensures counted { OnOk result
             ((self.new.failures ≡ self.old.failures) × (self.new.late ≡ self.old.late)) }
         ensures settled { self.new.settled ≡ self.old.settled }
@@ -152,7 +158,8 @@ impl<A: Admin> Book<A> {
         self.failures
     }
 
-    /// Marks the book, in whose journal Close stands: from here on the faults of the admin are late.
+    /// Marks the book, in whose journal Close stands: from here on the faults of the admin are
+    /// late.
     pub fn settle(&mut self)
         requires { list_any is_close self.old.journal ≡ true }
         ensures { self.new ≡ record self.old { settled = true } }

@@ -15,7 +15,8 @@ use std::alloc::Global;
 use std::marker::Model;
 use user_tasks::{Status, TaskTable};
 
-/// The executor, the user tasks, the job of each, how many tickets were given, and whether Close was asked.
+/// The executor, the user tasks, the job of each, how many tickets were given, and whether Close
+/// was asked.
 #[derive(Drop)]
 pub struct Desk {
     pub(crate) exec: Exec,
@@ -128,7 +129,8 @@ impl Desk {
         }
     }
 
-    // After the executor has moved on: where its last unfinished task has ended, so has the user task in execution.
+    // After the executor has moved on: where its last unfinished task has ended, so has the user
+    // task in execution.
     pub(crate) fn move_on(&mut self, was_executing: bool)
         ensures { self.new ≡ (if was_executing && not (any_unfinished self.old.exec.tasks)
             then execution_ended self.old (position (λ t. is_in_execution t.status) self.old.tasks)

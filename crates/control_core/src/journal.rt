@@ -45,16 +45,19 @@ pub fn is_legal(event: &Event)
 }
 
 impl Machine {
-    /// Makes room in the journal for the entry of an event and, where it is not sure, for one that it may call for.
+    /// Makes room in the journal for the entry of an event and, where it is not sure, for one that
+    /// it may call for.
     pub fn make_room(&self, journal: &mut Vec<Event>, event: &Event) -> Result<(), Memory>
         requires tickets { AreTickets self.now.desk }
-        requires room { length journal.old.items + kept_for self.now.desk ≤ vec_capacity journal.old }
+        requires room { length journal.old.items + kept_for self.now.desk
+            ≤ vec_capacity journal.old }
         ensures items { journal.new.items ≡ journal.old.items }
         ensures room { OnOk result
             (length journal.old.items +
             (if is_sure self.now.desk event.now then kept_for self.now.desk else kept_for
             self.now.desk + 2) ≤ vec_capacity journal.new) }
-        ensures kept { length journal.old.items + kept_for self.now.desk ≤ vec_capacity journal.new }
+        ensures kept { length journal.old.items + kept_for self.now.desk
+            ≤ vec_capacity journal.new }
         ensures sure { is_sure self.now.desk event.now ≡ true → IsOk result }
     {
         if self.desk.is_sure(event) {
@@ -68,10 +71,13 @@ impl Machine {
     pub fn write<A: Admin>(&self, admin: &mut A, event: &Event) -> Result<(), Failed>
         requires few { self.now.desk.exec.leases < 2 ^ 63 }
         requires installed { A.parts admin.old ≡ length self.now.desk.exec.base }
+        // The list that the event writes is told, or none is.
         ensures told { OnOk result
             (A.told admin.new ≡ told_after self.now.desk.exec event.now (A.told admin.old)) }
         ensures failed { OnErr result (A.told admin.new ≡ A.told admin.old) }
         ensures parts { A.parts admin.new ≡ A.parts admin.old }
+        // It fails where a call did alone, and only for an event that writes, while a task is
+        // unfinished.
         ensures later { A.faults admin.old ≤ A.faults admin.new }
         ensures cause { OnErr result (HasRisen (A.faults admin.old) (A.faults admin.new)) }
         ensures busy { OnErr result (any_unfinished self.now.desk.exec.tasks ≡ true) }

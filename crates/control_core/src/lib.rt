@@ -1,4 +1,5 @@
-//! The core of the service: one book that takes events in order, answers each, and keeps the journal of them.
+//! The core of the service: one book that takes events in order, answers each, and keeps the
+//! journal of them.
 #![tactic(auto)]
 
 mod book;

@@ -1,4 +1,5 @@
-// The places of user tasks and jobs, the first first. What only open user tasks can be is looked for among those alone.
+// The places of user tasks and jobs, the first first. What only open user tasks can be is looked
+// for among those alone.
 ghost use Rattle.std.specs.Prelude.{◌≡◌, ◌<◌, IfSome, find, is_none, length, true};
 ghost use Rattle.std.specs.List.{position, list_any, zip};
 ghost use Rattle.user_tasks.specs.Tasks.{is_open};

@@ -152,7 +152,8 @@ impl Desk {
         self.set_status(place, Status::CompletedWithError);
     }
 
-    /// The plan of the job at a place makes these changes: they are launched, where there are any and it is no dry run.
+    /// The plan of the job at a place makes these changes: they are launched, where there are any
+    /// and it is no dry run.
     pub fn take_plan(
         &mut self,
         alloc: Global,

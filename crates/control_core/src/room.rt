@@ -41,7 +41,8 @@ impl Desk {
         self.holder_of(ticket).is_some()
     }
 
-    /// No fewer entries than those for which the journal keeps room: one for each task, one for each job, and one for Close.
+    /// No fewer entries than those for which the journal keeps room: one for each task, one for
+    /// each job, and one for Close.
     #[tactic(auto, using(crate::proofs::Kept::kept_few))]
     pub fn most_kept(&self) -> usize
         ensures most { kept_for self.now ≤ result }

@@ -40,9 +40,12 @@ impl Machine {
         )
     }
 
-    /// Answers an event, and is in the next state. Only an event that wants memory may meet want of it, and then nothing changes.
+    /// Answers an event, and is in the next state. Only an event that wants memory may meet want of
+    /// it, and then nothing changes.
     pub fn serve(&mut self, alloc: Global, event: &Event) -> Result<Reply, Memory>
         requires { IsReady self.old }
+        // The reply and the next state are those of the definition, for whatever samples the
+        // windows stand for.
         ensures reply { IfOk result
             (λ r. (samples : List Sample) → StandsFor self.old.windows samples
             → r ≡ reply_of self.old.file (core_of self.old samples) event.now) }
@@ -53,8 +56,10 @@ impl Machine {
             ((samples : List Sample) → StandsFor self.old.windows samples
             → StandsFor self.new.windows
             (next self.old.file (core_of self.old samples) event.now).samples) }
+        // What always stays.
         ensures windows { AreWindows self.new }
         ensures file { self.new.file ≡ self.old.file }
+        // Out of memory nothing changes, and only an event that wants memory meets that.
         ensures err { OnErr result (self.new ≡ self.old) }
         ensures frugal { wants_memory event.now ≡ false → IsOk result }
     {

@@ -146,7 +146,8 @@ impl Desk {
         }
     }
 
-    // The user task whose execution is unfinished; where no task is, the one whose plan is made to be carried out.
+    // The user task whose execution is unfinished; where no task is, the one whose plan is made to
+    // be carried out.
     fn executing(&self) -> Option<usize>
         ensures { result ≡ executing self.now }
     {

@@ -62,9 +62,13 @@ fn finish<A: Admin>(admin: &mut A, exec: &Exec, lease: u64, kind: WorkKind) -> R
 pub fn write<A: Admin>(admin: &mut A, exec: &Exec, event: &Event) -> Result<(), Failed>
     requires few { exec.now.leases < 2 ^ 63 }
     requires installed { A.parts admin.old ≡ length exec.now.base }
-    ensures told { OnOk result (A.told admin.new ≡ told_after exec.now event.now (A.told admin.old)) }
+    // The list that the event writes is told, or none is.
+    ensures told { OnOk result (A.told admin.new
+        ≡ told_after exec.now event.now (A.told admin.old)) }
     ensures failed { OnErr result (A.told admin.new ≡ A.told admin.old) }
     ensures parts { A.parts admin.new ≡ A.parts admin.old }
+    // It fails where a call did alone, and only for an event that writes, while a task is
+    // unfinished.
     ensures later { A.faults admin.old ≤ A.faults admin.new }
     ensures cause { OnErr result (HasRisen (A.faults admin.old) (A.faults admin.new)) }
     ensures busy { OnErr result (any_unfinished exec.now.tasks ≡ true) }

@@ -113,7 +113,8 @@ fn set_of(alloc: Global, topics: &[Topic]) -> Result<HashSet<String>, Memory>
 
 // Whether the partition is left out, where the topics of the set are.
 fn is_excluded(excluded: &HashSet<String>, part: &Part) -> bool
-    ensures { (ask : Ask) → HasTopics excluded.now ask.excluded → result ≡ is_excluded ask part.now }
+    ensures { (ask : Ask) → HasTopics excluded.now ask.excluded
+        → result ≡ is_excluded ask part.now }
 {
     excluded.contains(part.topic.as_str()) || part.excluded
 }

@@ -1,5 +1,5 @@
-//! What the core reads: the cluster file that it is opened with, the present cluster with its loads, what a request makes of that,
-//! whether a plan is for it, and what is shown.
+//! What the core reads: the cluster file that it is opened with, the present cluster with its
+//! loads, what a request makes of that, whether a plan is for it, and what is shown.
 #![tactic(auto)]
 
 mod asked;

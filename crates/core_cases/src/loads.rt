@@ -114,7 +114,8 @@ fn load_parts(case: &mut Case, windows: &Windows)
     }
 }
 
-/// The cluster of a file with the loads of the windows; a partition without keeps what the file gives, or none.
+/// The cluster of a file with the loads of the windows; a partition without keeps what the file
+/// gives, or none.
 #[tactic(auto, unfolding(core_terms::specs::Input::loaded_parts))]
 pub fn loaded(alloc: Global, file: &OpenFile, windows: &Windows) -> Result<Case, Memory>
     requires rules { windows.now.rules ≡ file.now.rules }
@@ -135,7 +136,8 @@ pub fn loaded_case(alloc: Global, file: &ClusterFile) -> Result<Case, Memory>
     ensures value { IfOk result
         (λ c. c
         ≡ record file.now.case {
-          parts = loaded_parts (file_seen file.now) (accepted file.now.rules file.now.samples.items);
+          parts = loaded_parts (file_seen file.now)
+              (accepted file.now.rules file.now.samples.items);
         }) }
     ensures belongs { IfOk result (λ c. Belongs c file.now.lists) }
 {

@@ -42,7 +42,8 @@ pub fn state_shown(file: &OpenFile, exec: &Exec, valid: u32) -> StateShown
     }
 }
 
-/// What each broker of the present cluster carries on the present lists. Each list is looked at once.
+/// What each broker of the present cluster carries on the present lists. Each list is looked at
+/// once.
 pub fn load_shown(alloc: Global, case: &Case, exec: &Exec) -> Result<ListOf<BrokerShown>, Memory>
     requires { length exec.now.base ≡ length case.now.parts }
     ensures { IfOk result (λ l. l ≡ load_shown case.now (lists_now exec.now)) }
@@ -81,7 +82,8 @@ fn added(alloc: Global, before: &[u32], after: &[u32]) -> Result<Replicas, Memor
     Ok(Replicas::new(ids))
 }
 
-// What is added to the list of a partition just now, and what is removed, given the place of its task.
+// What is added to the list of a partition just now, and what is removed, given the place of its
+// task.
 fn moving(alloc: Global, exec: &Exec, task: Option<u32>) -> Result<(Replicas, Replicas), Memory>
     requires { IfSome task (λ i. i < length exec.now.tasks) }
     ensures adding { IfOk result (λ r. r.0 ≡ adding_by exec.now task) }

@@ -4,7 +4,8 @@ ghost use Rattle.core_terms.specs.Caps.{IsCapChange};
 
 use std::marker::Model;
 
-/// Caps that are to change: one that is absent keeps its value, and each that is there is 1 to 10,000.
+/// Caps that are to change: one that is absent keeps its value, and each that is there is 1 to
+/// 10,000.
 #[derive(Drop)]
 pub struct CapChange {
     broker: Option<u32>,

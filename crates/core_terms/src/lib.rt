@@ -1,5 +1,5 @@
-//! The words of the service's core: its events and replies and, in `specs/`, its state, its step and its legal histories, which
-//! the contracts of the book cite.
+//! The words of the service's core: its events and replies and, in `specs/`, its state, its step
+//! and its legal histories, which the contracts of the book cite.
 #![tactic(auto)]
 
 mod caps;

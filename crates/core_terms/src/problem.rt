@@ -6,7 +6,8 @@ use goal_set::GoalList;
 use load_model::{Assign, Case};
 use std::marker::Model;
 
-/// What a planner is given: a case, lists to begin with, which belong to it, and goals in the order of their turns.
+/// What a planner is given: a case, lists to begin with, which belong to it, and goals in the order
+/// of their turns.
 #[derive(Drop)]
 pub struct Problem {
     case: Case,

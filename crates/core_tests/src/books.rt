@@ -1,5 +1,5 @@
-// Runs of a book, written as steps and what each is answered. Where a call fails the tests panic, in place of `?`, so that a book is
-// dropped at one place alone: the proof of each drop is long.
+// Runs of a book, written as steps and what each is answered. Where a call fails the tests panic,
+// in place of `?`, so that a book is dropped at one place alone: the proof of each drop is long.
 use cluster_gate::{FailingAdmin, MemoryCluster, MemoryCopier, copy_chunk};
 use control_core::Book;
 use core_terms::{Event, Problem, Reply};
@@ -162,7 +162,8 @@ fn told(alloc: Global, reply: &Reply) -> Result<String, AllocError> {
     }
 }
 
-// Takes steps, each of which has its answer, on a book of its own, whose admin fails at these calls; then the partition has this list.
+// Takes steps, each of which has its answer, on a book of its own, whose admin fails at these
+// calls; then the partition has this list.
 fn run_rows<R: Threads + Sync + Abort>(
     rt: &R,
     alloc: Global,

@@ -1,5 +1,5 @@
-// A small file is opened, asked of and shown. Where a call fails the tests panic, in place of `?`, so that each value is dropped at one place
-// alone: the proof of each drop is long.
+// A small file is opened, asked of and shown. Where a call fails the tests panic, in place of `?`,
+// so that each value is dropped at one place alone: the proof of each drop is long.
 ghost use Rattle.std.specs.Prelude.{◌≡◌, length};
 
 use core_cases::{

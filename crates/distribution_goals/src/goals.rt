@@ -13,18 +13,20 @@ use move_actions::Goal;
 /// The goal that replicas are spread evenly: Cruise Control's ReplicaDistributionGoal.
 pub type ReplicaDistributionGoal = BrokerGoal<Replicas, Even<ReplicaBalance>, Soft>;
 
-/// The goal that each broker uses its disk about as much as all brokers together use theirs: Cruise Control's
-/// DiskUsageDistributionGoal.
+/// The goal that each broker uses its disk about as much as all brokers together use theirs: Cruise
+/// Control's DiskUsageDistributionGoal.
 pub type DiskUsageDistributionGoal = BrokerGoal<Load<Disk>, NearUse<Disk>, Soft>;
 
-/// The same of what comes in over the network: Cruise Control's NetworkInboundUsageDistributionGoal.
+/// The same of what comes in over the network: Cruise Control's
+/// NetworkInboundUsageDistributionGoal.
 pub type NetworkInboundUsageDistributionGoal = BrokerGoal<
     Load<NetworkIn>,
     NearUse<NetworkIn>,
     Soft,
 >;
 
-/// The same of what goes out over the network: Cruise Control's NetworkOutboundUsageDistributionGoal.
+/// The same of what goes out over the network: Cruise Control's
+/// NetworkOutboundUsageDistributionGoal.
 pub type NetworkOutboundUsageDistributionGoal = BrokerGoal<
     Load<NetworkOut>,
     NearUse<NetworkOut>,

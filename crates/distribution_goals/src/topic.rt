@@ -70,8 +70,9 @@ impl<'t> Amount for TopicReplicas<'t> {
     ghost small_weights = { λ q p _. topic-small q.name.now p };
 }
 
-/// The goal that each topic's replicas are spread evenly: Cruise Control's TopicReplicaDistributionGoal. Its units are the
-/// brokers that aren't lost, for each topic in the order of its first partition.
+/// The goal that each topic's replicas are spread evenly: Cruise Control's
+/// TopicReplicaDistributionGoal. Its units are the brokers that aren't lost, for each topic in the
+/// order of its first partition.
 #[derive(Drop)]
 pub struct TopicReplicaDistributionGoal {
     band: Even<TopicBalance>,

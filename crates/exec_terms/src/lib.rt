@@ -1,5 +1,5 @@
-//! The words of the executor of replica movements: its plain types and, in `specs/`, the state machine that its
-//! contracts cite.
+//! The words of the executor of replica movements: its plain types and, in `specs/`, the state
+//! machine that its contracts cite.
 #![tactic(auto)]
 
 mod brokers;

@@ -136,7 +136,8 @@ impl Task {
         self.lease = None;
     }
 
-    /// The execution is stopped: a task that waits is aborted, and with force one in progress is aborting.
+    /// The execution is stopped: a task that waits is aborted, and with force one in progress is
+    /// aborting.
     pub fn stop(&mut self, force: bool)
         ensures { self.new ≡ stopped_by force self.old }
     {

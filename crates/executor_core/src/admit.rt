@@ -26,8 +26,8 @@ fn has_part(proposals: &[Proposal], part: u32) -> bool
     proposals.iter().any(|p| p.part == part)
 }
 
-/// Whether the proposals are of partitions that differ. One pass tells it where they are in order of the partitions, as those
-/// of a plan are.
+/// Whether the proposals are of partitions that differ. One pass tells it where they are in order
+/// of the partitions, as those of a plan are.
 pub fn have_distinct_parts(proposals: &[Proposal]) -> bool
     ensures { result ≡ have_distinct_parts proposals.now }
 {

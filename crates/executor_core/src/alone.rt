@@ -66,8 +66,8 @@ fn start(exec: &mut Exec, alloc: Global, proposals: &[Proposal]) -> Result<(), M
     }
 }
 
-/// An executor of the case with these lists, without an execution. Its brokers are the case's, and those that are lost are
-/// dead.
+/// An executor of the case with these lists, without an execution. Its brokers are the case's, and
+/// those that are lost are dead.
 pub fn opened(alloc: Global, case: &Case, caps: Caps, lists: &Assign) -> Result<Exec, Memory>
     requires broker_cap { 1 ≤ caps.broker }
     requires cluster_cap { 1 ≤ caps.cluster }
@@ -160,8 +160,9 @@ fn drain(exec: &mut Exec)
     }
 }
 
-/// Carries out within the caps, on one thread, what takes the case's partitions from the one assignment to the other: launches the
-/// proposals, then takes work and reports it done until nothing is left.
+/// Carries out within the caps, on one thread, what takes the case's partitions from the one
+/// assignment to the other: launches the proposals, then takes work and reports it done until
+/// nothing is left.
 pub fn carry_out(
     alloc: Global,
     case: &Case,
@@ -175,13 +176,16 @@ pub fn carry_out(
     requires before { Belongs case.now before.now }
     requires after { Belongs case.now after.now }
     requires no_lost { All (λ list. list_any (is_lost case.now) list ≡ false) after.now }
+    // Nothing is left, and the lists are those that were asked for.
     ensures drained { IfOk result (λ exec. first_unfinished exec ≡ None) }
     ensures lists { IfOk result (λ exec. lists_now exec ≡ after.now) }
+    // It went from the lists before by their proposals, within the caps.
     ensures base { IfOk result (λ exec. exec.base ≡ before.now) }
     ensures tasks { IfOk result
         (λ exec. map proposal_of exec.tasks ≡ proposals before.now after.now) }
     ensures caps { IfOk result (λ exec. exec.caps ≡ caps) }
     ensures hosts { IfOk result (λ exec. exec.hosts ≡ (opening case.now before.now caps).hosts) }
+    // No task failed.
     ensures completed { IfOk result (λ exec. All (λ t. t.phase ≡ Phase.Completed) exec.tasks) }
 {
     let mut exec = launched(alloc, case, caps, before, after)?;

@@ -40,7 +40,8 @@ pub struct Exec {
     leases: u64,
     // the ids of the hosts
     brokers: Vec<u32>,
-    // beside each task, the list of its partition while it is in flight, so that reading it takes no memory
+    // beside each task, the list of its partition while it is in flight, so that reading it takes
+    // no memory
     unions: Vec<Replicas>,
     // beside each task, what it was made of
     proposals: Vec<Proposal>,
@@ -84,8 +85,8 @@ impl Model for Exec {
 }
 
 impl Exec {
-    /// An executor of these lists, without an execution. Each replica of partition p takes `chunks[p]` copies, at most 1,000.
-    /// The dead brokers are among the brokers.
+    /// An executor of these lists, without an execution. Each replica of partition p takes
+    /// `chunks[p]` copies, at most 1,000. The dead brokers are among the brokers.
     pub fn new(
         alloc: Global,
         lists: &Assign,
@@ -125,8 +126,9 @@ impl Exec {
         })
     }
 
-    /// Whether the proposals can be launched: at most 10,000, of partitions that differ, each from the list that its partition
-    /// has now to 1 to 8 distinct known brokers, and no dead broker is added or would lead where the leader alone changes.
+    /// Whether the proposals can be launched: at most 10,000, of partitions that differ, each from
+    /// the list that its partition has now to 1 to 8 distinct known brokers, and no dead broker is
+    /// added or would lead where the leader alone changes.
     pub fn can_launch(&self, proposals: &[Proposal]) -> bool
         ensures { IsTrue result ↔ CanLaunch self.now proposals.now }
     {
@@ -246,7 +248,8 @@ impl Exec {
 
     // The first task in progress with no lease out.
     fn first_to_go_on(&self) -> Option<usize>
-        ensures { result ≡ position (λ t. is_in_progress t.phase && is_free t.lease) self.now.tasks }
+        ensures { result ≡ position
+            (λ t. is_in_progress t.phase && is_free t.lease) self.now.tasks }
     {
         self.index.first_to_go_on()
     }
@@ -326,7 +329,8 @@ impl Exec {
         self.leases = given.lease;
     }
 
-    /// The task that holds the lease for this kind of work, or why the lease is worth nothing. Nothing changes.
+    /// The task that holds the lease for this kind of work, or why the lease is worth nothing.
+    /// Nothing changes.
     #[tactic(auto, unfolding(exec_terms::specs::Leases::test_lease))]
     pub fn test_lease(&self, lease: u64, kind: WorkKind) -> Result<u32, LeaseFault>
         ensures { result ≡ test_lease self.now lease kind }
@@ -460,7 +464,8 @@ impl Exec {
         }
     }
 
-    /// Stops the execution: aborts the tasks that wait, and with force makes those in progress abort.
+    /// Stops the execution: aborts the tasks that wait, and with force makes those in progress
+    /// abort.
     pub fn stop(&mut self, force: bool) -> Result<Stopped, NothingToStop>
         ensures state { self.new ≡ after_stop self.old force }
         ensures reply { result ≡ stop_reply self.old force }
@@ -482,7 +487,8 @@ impl Exec {
         Ok(Stopped { aborted, aborting })
     }
 
-    /// A broker has died: tasks that wait and need it are dead, and those in flight are aborting and doomed.
+    /// A broker has died: tasks that wait and need it are dead, and those in flight are aborting
+    /// and doomed.
     pub fn kill(&mut self, broker: u32) -> Result<Killed, KillFault>
         ensures state { self.new ≡ after_kill self.old broker }
         ensures reply { result ≡ kill_reply self.old broker }
@@ -503,7 +509,8 @@ impl Exec {
         Ok(Killed { dead, aborting })
     }
 
-    /// The list of a partition now: while it is in flight, the old list first, and then what the new one adds.
+    /// The list of a partition now: while it is in flight, the old list first, and then what the
+    /// new one adds.
     pub fn list(&self, part: u32) -> &[u32]
         requires { part < length self.now.base }
         ensures { result.now ≡ list_now self.now part }
@@ -581,7 +588,8 @@ impl Exec {
         }
     }
 
-    /// The settled lists of all partitions, in order: the present lists, but the old one of a task in flight.
+    /// The settled lists of all partitions, in order: the present lists, but the old one of a task
+    /// in flight.
     pub fn settled_lists(&self, alloc: Global) -> Result<Vec<Replicas>, Memory>
         ensures { IfOk result (λ lists. lists.items ≡ settled_lists self.now) }
     {
@@ -593,7 +601,8 @@ impl Exec {
         Ok(lists)
     }
 
-    /// The list that a task's partition has while it is moved: the old list first, and then what the new one adds.
+    /// The list that a task's partition has while it is moved: the old list first, and then what
+    /// the new one adds.
     pub fn union(&self, task: u32) -> &[u32]
         requires { task < length self.now.tasks }
         ensures { result.now ≡ union_of (task_at self.now.tasks task) }
@@ -601,7 +610,8 @@ impl Exec {
         self.unions[task as usize].as_slice()
     }
 
-    /// From now on these caps are in force. Tasks in flight go on, and none starts before there is room for it.
+    /// From now on these caps are in force. Tasks in flight go on, and none starts before there is
+    /// room for it.
     pub fn set_caps(&mut self, caps: Caps)
         requires broker_cap { 1 ≤ caps.broker }
         requires cluster_cap { 1 ≤ caps.cluster }
@@ -672,7 +682,8 @@ impl Exec {
 
     /// Whether a task that moves replicas is unfinished.
     pub fn is_moving_replicas(&self) -> bool
-        ensures { result ≡ list_any (λ t. is_unfinished t.phase && is_replica_task t) self.now.tasks }
+        ensures { result ≡ list_any
+            (λ t. is_unfinished t.phase && is_replica_task t) self.now.tasks }
     {
         scan::any_moving(self.tasks.as_slice())
     }
@@ -684,7 +695,8 @@ impl Exec {
         self.tasks.len() as u32
     }
 
-    /// What a task was made of: its partition, the list that it had, and the one that it is to have.
+    /// What a task was made of: its partition, the list that it had, and the one that it is to
+    /// have.
     pub fn proposal(&self, task: u32) -> &Proposal
         requires { task < length self.now.tasks }
         ensures { result.now ≡ proposal_of (task_at self.now.tasks task) }
@@ -692,7 +704,8 @@ impl Exec {
         &self.proposals[task as usize]
     }
 
-    /// How many tasks in flight add and remove each broker, move replicas, and change a leader alone.
+    /// How many tasks in flight add and remove each broker, move replicas, and change a leader
+    /// alone.
     pub fn counts(&self) -> &Counts
         ensures { AreCounts self.now.hosts self.now.tasks result.now }
     {

@@ -86,7 +86,8 @@ pub fn places_by_part(
     requires known { All (λ t. t.part < parts) tasks.now }
     ensures long { IfOk result (λ places. vec_len places ≡ parts) }
     ensures each { IfOk result
-        (λ places. (p : ℕ) → p < parts → get_or places.items p None ≡ position (is_on p) tasks.now) }
+        (λ places. (p : ℕ) → p < parts
+        → get_or places.items p None ≡ position (is_on p) tasks.now) }
 {
     let mut places = vec![in alloc; None; parts]?;
     for (place, task) in tasks.iter().enumerate() {

@@ -281,7 +281,8 @@ const EXECUTION_3: [Row; 40] = [
     (Call::GiveBack(4), "Err(Stale(3))"),
 ];
 
-// By the cap of a broker, the chunks of a replica, where the partitions are and go to, and the calls.
+// By the cap of a broker, the chunks of a replica, where the partitions are and go to, and the
+// calls.
 pub const RANDOM: [(u32, u32, [u32; 4], [u32; 4], &[Row]); 4] = [
     (1, 1, [2, 0, 3, 3], [3, 5, 3, 1], &EXECUTION_0),
     (2, 1, [4, 4, 1, 3], [0, 3, 2, 4], &EXECUTION_1),

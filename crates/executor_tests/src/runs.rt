@@ -1,4 +1,5 @@
-// Executions of four partitions on the brokers 0 to 5: call by call, disturbed before each event, and whole.
+// Executions of four partitions on the brokers 0 to 5: call by call, disturbed before each event,
+// and whole.
 ghost use Rattle.std.specs.Prelude.{◌≡◌, ◌≤◌, false};
 ghost use Rattle.std.specs.List.{All, list_any};
 ghost use Rattle.cluster_json.specs.Ranges.{IsFile};
@@ -399,7 +400,8 @@ const WHOLE: [Row; 5] = [
     (Call::List(3), "[5]"),
 ];
 
-// Executions, by the cap of a broker, whether they are carried out first, where the partitions are and go to, and their calls.
+// Executions, by the cap of a broker, whether they are carried out first, where the partitions are
+// and go to, and their calls.
 const EXECUTIONS: [(u32, bool, [u32; 4], [u32; 4], &[Row]); 8] = [
     (1, false, [0, 0, 0, 4], [1, 2, 3, 5], &FULL),
     (2, false, [0, 0, 0, 4], [1, 2, 3, 4], &LOWERED),
@@ -433,8 +435,8 @@ fn answers_random_executions_as_plain_scans_do(rt: HostRuntime) {
     }
 }
 
-// Stops and deaths, the first event before which each comes and the first before which it doesn't, its answer, and two
-// partitions' lists at the end.
+// Stops and deaths, the first event before which each comes and the first before which it doesn't,
+// its answer, and two partitions' lists at the end.
 const INTRUDERS: [(Call, u32, u32, &str, &str, &str); 16] = [
     (
         Call::Stop(true),
@@ -574,7 +576,8 @@ fn event(rt: &impl Abort, alloc: Global, exec: &mut Exec, held: Option<Given>) -
     None
 }
 
-// One worker takes work and reports it done, event by event; the call comes before the event of this number.
+// One worker takes work and reports it done, event by event; the call comes before the event of
+// this number.
 fn disturbed(rt: &impl Abort, alloc: Global, call: &Call, want: &str, before: u32) -> Exec {
     let mut exec = moving(rt, alloc, 1, 2, false, [0, 0, 4, 4], [2, 3, 4, 4]);
     let mut held = None;

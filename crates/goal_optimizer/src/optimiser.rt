@@ -35,8 +35,8 @@ impl From<Memory> for PlanFault {
     }
 }
 
-/// The turns that were taken, the case that they were taken on, the lists that they lead to, and how far the last goal stays
-/// broken, where that ended them.
+/// The turns that were taken, the case that they were taken on, the lists that they lead to, and
+/// how far the last goal stays broken, where that ended them.
 #[derive(Drop)]
 pub struct Outcome {
     pub turns: Vec<Turned>,
@@ -99,10 +99,11 @@ fn take_turns<R: Threads + Sync>(
     })
 }
 
-/// Optimises the goals one after another from the start: a plan in which each goal had its turn and each hard goal was met at
-/// the end of its own, or the failure of the first hard goal that was not. In a goal's turn an action is taken only if it is
-/// legal, each goal before accepts it and it lessens the goal; the turn ends where the goal is met or no such action is left.
-/// Each action is the first such one of the list of candidates.
+/// Optimises the goals one after another from the start: a plan in which each goal had its turn and
+/// each hard goal was met at the end of its own, or the failure of the first hard goal that was
+/// not. In a goal's turn an action is taken only if it is legal, each goal before accepts it and it
+/// lessens the goal; the turn ends where the goal is met or no such action is left. Each action is
+/// the first such one of the list of candidates.
 pub fn optimise<R: Threads + Sync>(
     rt: &R,
     alloc: Global,

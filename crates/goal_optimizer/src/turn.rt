@@ -14,8 +14,9 @@ use plan_terms::{Actions, Memory};
 use std::alloc::Global;
 use std::thread::Threads;
 
-/// Takes the turn of a goal: one action after another, each the first candidate that the earlier goals accept and that
-/// lessens it, up to lists at which no such action is left. That ends where the goal is met, if not before.
+/// Takes the turn of a goal: one action after another, each the first candidate that the earlier
+/// goals accept and that lessens it, up to lists at which no such action is left. That ends where
+/// the goal is met, if not before.
 pub fn take_turn<G: Goal + Sync, R: Threads + Sync>(
     rt: &R,
     alloc: Global,
@@ -40,13 +41,14 @@ pub fn take_turn<G: Goal + Sync, R: Threads + Sync>(
     ensures order { IfOk result (λ actions. IsOrderOf case.now book.new.lists order.new) }
     ensures case { IfOk result (λ actions. book.new.cluster ≡ book.old.cluster) }
 {
-    let mut scan = Scan::new(alloc, case, earlier)?;
+    let mut scan = Scan::new(alloc, case, book, earlier, goal)?;
     let mut actions = Actions::new(alloc);
     'scan: loop {
         let next = next_lessening(rt, alloc, case, book, order, &mut scan, earlier, goal)?;
         match next {
             None => return Ok(actions),
             Some(action) => {
+                scan.note(case, book, earlier, goal, action);
                 order.after(case, book, action);
                 book.apply(case, action);
                 actions.push(action)?;

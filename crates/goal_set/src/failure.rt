@@ -9,8 +9,8 @@ use crate::trace::Trace;
 use load_model::{Assign, Case};
 use std::marker::Model;
 
-/// A failure: turns that end with that of the first hard goal which stays broken, and how far it is. Whoever holds one holds
-/// a proof of that.
+/// A failure: turns that end with that of the first hard goal which stays broken, and how far it
+/// is. Whoever holds one holds a proof of that.
 #[derive(Drop)]
 pub struct Failure {
     case: Case,
@@ -34,7 +34,13 @@ impl Model for Failure {
     } };
 
     ghost invariant = { λ f. IsFailure
-        (record { case = f.case; start = f.start; goals = f.goals; trace = f.trace; left = f.left }) };
+        (record {
+          case = f.case;
+          start = f.start;
+          goals = f.goals;
+          trace = f.trace;
+          left = f.left;
+        }) };
 }
 
 impl Failure {

@@ -37,8 +37,8 @@ pub(crate) struct DefaultGoal {
     hard: bool,
 }
 
-// The goals of a request that names none, in the order of their turns: the one table of names and hardness too. It has
-// the order of the variants, so that a kind's number is its place.
+// The goals of a request that names none, in the order of their turns: the one table of names and
+// hardness too. It has the order of the variants, so that a kind's number is its place.
 pub(crate) const DEFAULT_GOALS: [DefaultGoal; 18] = [
     DefaultGoal {
         kind: GoalKind::Evacuation,

@@ -245,9 +245,10 @@ fn listed(alloc: Global, names: &[GoalName]) -> Result<Vec<GoalKind>, Memory>
 }
 
 impl GoalList {
-    /// The goals of these names: evacuation, the hard ones as they are named, demotion, the soft ones as they are named.
-    /// No names stand for all goals. Else the first fault: a name that is no goal's, or one of a goal that each list has
-    /// anyway; then a name that stands again; then, unless `skip`, a hard goal that is not named.
+    /// The goals of these names: evacuation, the hard ones as they are named, demotion, the soft
+    /// ones as they are named. No names stand for all goals. Else the first fault: a name that is
+    /// no goal's, or one of a goal that each list has anyway; then a name that stands again; then,
+    /// unless `skip`, a hard goal that is not named.
     pub fn read(alloc: Global, names: &[GoalName], skip: bool) -> Result<GoalList, GoalFault>
         ensures ok { IfOk result (λ l. l ≡ read_kinds names.now) }
         ensures faultless { OnOk result (read_fault names.now skip ≡ None) }

@@ -7,8 +7,8 @@ use crate::trace::Trace;
 use load_model::{Assign, Case};
 use std::marker::Model;
 
-/// A plan: turns that are good for its case, its start and its goals, and lead to its end. Whoever holds one holds a proof
-/// of that.
+/// A plan: turns that are good for its case, its start and its goals, and lead to its end. Whoever
+/// holds one holds a proof of that.
 #[derive(Drop)]
 pub struct Plan {
     case: Case,
@@ -32,7 +32,13 @@ impl Model for Plan {
     } };
 
     ghost invariant = { λ p. IsPlan
-        (record { case = p.case; start = p.start; goals = p.goals; trace = p.trace; end = p.end }) };
+        (record {
+          case = p.case;
+          start = p.start;
+          goals = p.goals;
+          trace = p.trace;
+          end = p.end;
+        }) };
 }
 
 impl Plan {

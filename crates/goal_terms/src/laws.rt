@@ -86,7 +86,8 @@ pub fn cold_brokers_lessen_nothing()
     ensures { ColdBrokersLessenNothing }
 {}
 
-/// An action of two brokers, neither of which holds a member of a partition with an excess, lessens no goal over partitions.
+/// An action of two brokers, neither of which holds a member of a partition with an excess, lessens
+/// no goal over partitions.
 pub fn cold_members_lessen_nothing()
     ensures { ColdMembersLessenNothing }
 {}
@@ -96,8 +97,8 @@ pub fn still_parts_lessen_nothing()
     ensures { StillPartsLessenNothing }
 {}
 
-/// An action that trades equal weights lessens no goal over brokers, nor does one that gives more to a broker that isn't
-/// below its bounds and less to one that isn't above them.
+/// An action that trades equal weights lessens no goal over brokers, nor does one that gives more
+/// to a broker that isn't below its bounds and less to one that isn't above them.
 pub fn idle_trades_lessen_nothing()
     ensures { IdleTradesLessenNothing }
 {}
@@ -127,12 +128,14 @@ pub fn topics_add_up()
     ensures { TopicsAddUp }
 {}
 
-/// A goal over topics and brokers accepts an action exactly where the goals for the topics that it touches do.
+/// A goal over topics and brokers accepts an action exactly where the goals for the topics that it
+/// touches do.
 pub fn touched_topics_accept()
     ensures { TouchedTopicsAccept }
 {}
 
-/// An action of two brokers, neither of which has an excess for some topic, lessens no goal over topics and brokers.
+/// An action of two brokers, neither of which has an excess for some topic, lessens no goal over
+/// topics and brokers.
 pub fn cold_topics_lessen_nothing()
     ensures { ColdTopicsLessenNothing }
 {}
@@ -159,7 +162,8 @@ pub fn goals_on_examples()
     ensures most_one { measure (per_broker true replica_weights (at_most 1) replaced_broker)
         one_each ≡ 0 }
 
-    // The leader carries 4 and the follower 7, of capacities of 9, half of which may be used: 14 - 9.
+    // The leader carries 4 and the follower 7, of capacities of 9, half of which may be used: 14 -
+    // 9.
     ensures capacity { measure
         (per_broker true (load_weights DISK) (within_capacity (record { num = 1; den = 2 }) 3)
         shared_rack) ((0 ∷ 1 ∷ []) ∷ []) ≡ 5 }
@@ -208,7 +212,8 @@ pub fn goals_on_examples()
         replaced_broker) ((1 ∷ []) ∷ (1 ∷ []) ∷ (1 ∷ []) ∷ []) ≡ 2 }
 
     // A broker is above or below its bounds, or cold, as one that is lost.
-    ensures above { broker_heat replica_weights (at_most 0) replaced_broker one_each 1 ≡ heat.Above }
+    ensures above { broker_heat replica_weights (at_most 0) replaced_broker one_each 1
+        ≡ heat.Above }
     ensures below { broker_heat replica_weights
         (even (record { num = 1; den = 1 }) (units_of replaced_broker)) replaced_broker
         ((1 ∷ []) ∷ (1 ∷ []) ∷ (1 ∷ []) ∷ []) 2 ≡ heat.Below }

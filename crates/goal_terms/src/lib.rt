@@ -1,5 +1,5 @@
-//! The words of goals over brokers: a broker's quantity, its bounds, what an action does to both, and, in `specs/`, every
-//! definition that the goals' contracts cite.
+//! The words of goals over brokers: a broker's quantity, its bounds, what an action does to both,
+//! and, in `specs/`, every definition that the goals' contracts cite.
 #![tactic(auto)]
 
 mod heat;

@@ -1,6 +1,7 @@
 // What an action does to its two brokers.
 
-/// What an action does to a quantity of brokers: broker `from` gives `out` to broker `to`, which gives `back` for it.
+/// What an action does to a quantity of brokers: broker `from` gives `out` to broker `to`, which
+/// gives `back` for it.
 #[derive(Clone, Copy, Debug, PartialEq, Eq)]
 pub struct Trade {
     /// The id of the broker that a replica or the lead leaves.

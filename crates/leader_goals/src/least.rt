@@ -1,4 +1,5 @@
-// The goal that each broker that may lead leads at least as many partitions of a topic as the options ask.
+// The goal that each broker that may lead leads at least as many partitions of a topic as the
+// options ask.
 ghost use Rattle.goal_terms.specs.LeastLeaders.{IsMadeFor, at_least, floor_excess, floor_in, floor_of, led_weights, least_leaders_goal, least_rule};
 ghost use Rattle.goal_terms.specs.Limits.{SmallLoads, SmallWeights};
 ghost use Rattle.goal_terms.specs.PerBroker.{per_broker};
@@ -91,9 +92,9 @@ impl Band for AtLeast {
     ghost small_bounds = { λ b c made _. least-bounds b.least made };
 }
 
-/// The goal that each broker that is neither lost nor demoted leads at least as many partitions of a topic as the cluster file
-/// asks: Cruise Control's MinTopicLeadersPerBrokerGoal. Its units are those brokers, for each named topic that has partitions,
-/// in the order of the topics.
+/// The goal that each broker that is neither lost nor demoted leads at least as many partitions of
+/// a topic as the cluster file asks: Cruise Control's MinTopicLeadersPerBrokerGoal. Its units are
+/// those brokers, for each named topic that has partitions, in the order of the topics.
 #[derive(Drop)]
 pub struct MinTopicLeadersPerBrokerGoal {
     // The topics of the case.

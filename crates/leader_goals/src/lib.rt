@@ -1,4 +1,5 @@
-//! The soft goals over brokers about leaders: what they would send, how many they are, and what they receive.
+//! The soft goals over brokers about leaders: what they would send, how many they are, and what
+//! they receive.
 #![tactic(auto)]
 
 mod least;
@@ -13,15 +14,15 @@ use broker_goals::{
 pub use least::MinTopicLeadersPerBrokerGoal;
 use move_actions::Goal;
 
-/// The goal that no broker would send more than the part of its capacity that may be used if it led every partition of
-/// which it is a member: Cruise Control's PotentialNwOutGoal.
+/// The goal that no broker would send more than the part of its capacity that may be used if it led
+/// every partition of which it is a member: Cruise Control's PotentialNwOutGoal.
 pub type PotentialNwOutGoal = BrokerGoal<PotentialOut, WithinCapacity<NetworkOut>, Soft>;
 
 /// The goal that leaders are spread evenly: Cruise Control's LeaderReplicaDistributionGoal.
 pub type LeaderReplicaDistributionGoal = BrokerGoal<Leaders, Even<LeaderBalance>, Soft>;
 
-/// The goal that no broker receives much more as a leader, for its capacity, than all together: Cruise Control's
-/// LeaderBytesInDistributionGoal.
+/// The goal that no broker receives much more as a leader, for its capacity, than all together:
+/// Cruise Control's LeaderBytesInDistributionGoal.
 pub type LeaderBytesInDistributionGoal = BrokerGoal<LeaderIn, BelowUse<NetworkIn>, Soft>;
 
 /// What the goals mean for a cluster, by the thresholds of its options.

@@ -52,8 +52,8 @@ fn plan_once<A: Admin, R: Threads + Wait + Sync>(
     planner_loop(rt, alloc, turn, pass).0
 }
 
-// As many movers, each in a thread of its own with the next of the copiers, and a front in this one. Where no thread can be started, its
-// work comes last.
+// As many movers, each in a thread of its own with the next of the copiers, and a front in this
+// one. Where no thread can be started, its work comes last.
 fn with_movers<
     A: Admin + Send,
     K: Copier + Send + Drop,
@@ -127,8 +127,9 @@ where
     (pass, front, end)
 }
 
-/// As many planners and movers, each in a thread of its own, and a front in this one. The movers have the first of the copiers, and all
-/// copiers come back in their order. Where no thread can be started, its work comes last.
+/// As many planners and movers, each in a thread of its own, and a front in this one. The movers
+/// have the first of the copiers, and all copiers come back in their order. Where no thread can be
+/// started, its work comes last.
 pub fn with_workers<
     A: Admin + Send,
     K: Copier + Send + Drop,

@@ -19,7 +19,8 @@ use std::sync::Wait;
 use std::thread::Threads;
 use turn_book::{Pass, Turn};
 
-/// A console with its copier, which the drain has too, and the service of a listener. One of both answers requests.
+/// A console with its copier, which the drain has too, and the service of a listener. One of both
+/// answers requests.
 #[derive(Drop)]
 pub struct Front<K, L, N: Listener>
 where
@@ -119,7 +120,8 @@ where
     }
 }
 
-/// Answers the requests of the console, or those of the links that are asked for, and then asks Close.
+/// Answers the requests of the console, or those of the links that are asked for, and then asks
+/// Close.
 pub fn serve_front<
     A: Admin + Send,
     K: Copier + Send + Drop,

@@ -1,4 +1,5 @@
-//! A live service: requests, planners and movers beside one another, over one book that they share as whole turns.
+//! A live service: requests, planners and movers beside one another, over one book that they share
+//! as whole turns.
 #![tactic(auto)]
 
 mod crew;

@@ -15,8 +15,8 @@ use std::sync::Wait;
 use std::thread::Threads;
 use turn_book::{Pass, Turn};
 
-/// Answers the requests of a link in their order, each by the reply to its own entries, until the link ends. The pass comes back with
-/// these entries.
+/// Answers the requests of a link in their order, each by the reply to its own entries, until the
+/// link ends. The pass comes back with these entries.
 pub fn serve_link<A: Admin, K: Copier, L: Link, R: Threads + Wait + Sync>(
     rt: &R,
     alloc: Global,
@@ -26,12 +26,15 @@ pub fn serve_link<A: Admin, K: Copier, L: Link, R: Threads + Wait + Sync>(
     link: &mut L,
 ) -> (Pass<Book<A>>, LinkEnd)
     requires own { Belongs turn.now pass }
+    // The pass is one of the turn, and has seen no less.
     ensures own { Belongs turn.now result.0 }
     ensures later { IsLater pass result.0 }
+    // The requests were answered, each by the reply to its own entries.
     ensures served { HasServed (known_by_pass turn.now.start.file pass)
         (known_by_pass turn.now.start.file result.0) (copies_told K.Copier copier.old)
         (copies_told K.Copier copier.new) (L.left link.old) (L.written link.old)
         (L.written link.new) result.1 }
+    // Counts never fall, and a fault of the link comes from one that rose.
     ensures source { L.Source.faults link.old ≤ L.Source.faults link.new }
     ensures sink { L.Sink.faults link.old ≤ L.Sink.faults link.new }
     ensures read_fault { result.1 ≡ LinkEnd.ReadFault

@@ -32,7 +32,8 @@ pub struct Served<C> {
     pub end: LinkEnd,
 }
 
-/// A listener with the copiers of its links, one each, and the links that were served, in the order in which they were accepted.
+/// A listener with the copiers of its links, one each, and the links that were served, in the order
+/// in which they were accepted.
 #[derive(Drop)]
 pub struct Service<K, N: Listener>
 where
@@ -66,8 +67,9 @@ pub fn serve_one<A: Admin, K: Copier, C: Link, R: Threads + Wait + Sync>(
     (pass, copier, Served { link, end })
 }
 
-// Accepts so many links, and answers the requests of each while it waits for the next: a thread accepts those that follow. Where none can be started, a
-// link is served to its end before the next is accepted.
+// Accepts so many links, and answers the requests of each while it waits for the next: a thread
+// accepts those that follow. Where none can be started, a link is served to its end before the next
+// is accepted.
 fn accept_links<
     A: Admin + Send,
     K: Copier + Send + Drop,
@@ -88,15 +90,19 @@ where
     requires parts { links < pass.parts }
     requires none { service.served.items ≡ [] }
     requires room { links ≤ vec_capacity service.served }
+    // The pass is one of the turn, and has seen no less.
     ensures own { Belongs turn.now result.0 }
     ensures later { IsLater pass result.0 }
+    // Each link that was accepted was served, with a copier of its own.
     ensures served { HasServedLinks turn.now.start.file (N.accepted service.listener)
         (N.accepted result.1.listener) (map (copies_told K.Copier) service.copiers.items)
         (map (copies_told K.Copier) result.1.copiers.items)
         (served_told N.Conn.Source N.Conn.Sink result.1.served.items) pass result.0 }
+    // There are fewer only where a call of the listener failed.
     ensures cause { HasCause (N.faults service.listener) (N.faults result.1.listener) result.2 }
     ensures whole { OnOk result.2 (vec_len result.1.served ≡ links) }
     ensures most { vec_len result.1.served ≤ links }
+    // Copiers come back.
     ensures count { vec_len result.1.copiers ≡ vec_len service.copiers }
     ensures copiers_room { vec_capacity service.copiers ≤ vec_capacity result.1.copiers }
     ensures served_room { vec_capacity service.served ≤ vec_capacity result.1.served }
@@ -150,12 +156,13 @@ where
     (pass, service, end)
 }
 
-/// Listens, and then accepts the links one after another. The requests of each are answered while the next is awaited, unless no thread can
-/// be started.
+/// Listens, and then accepts the links one after another. The requests of each are answered while
+/// the next is awaited, unless no thread can be started.
 ///
 /// # Errors
 ///
-/// `Failed` where a call of the listener failed. The links that were accepted before are served all the same.
+/// `Failed` where a call of the listener failed. The links that were accepted before are served all
+/// the same.
 pub fn serve_links<
     A: Admin + Send,
     K: Copier + Send + Drop,
@@ -176,15 +183,19 @@ where
     requires parts { serving.now.links < pass.parts }
     requires none { service.served.items ≡ [] }
     requires room { serving.now.links ≤ vec_capacity service.served }
+    // The pass is one of the turn, and has seen no less.
     ensures own { Belongs turn.now result.0 }
     ensures later { IsLater pass result.0 }
+    // Each link that was accepted was served, with a copier of its own.
     ensures served { HasServedLinks turn.now.start.file (N.accepted service.listener)
         (N.accepted result.1.listener) (map (copies_told K.Copier) service.copiers.items)
         (map (copies_told K.Copier) result.1.copiers.items)
         (served_told N.Conn.Source N.Conn.Sink result.1.served.items) pass result.0 }
+    // There are fewer only where a call of the listener failed.
     ensures cause { HasCause (N.faults service.listener) (N.faults result.1.listener) result.2 }
     ensures whole { OnOk result.2 (vec_len result.1.served ≡ serving.now.links) }
     ensures most { vec_len result.1.served ≤ serving.now.links }
+    // Copiers come back.
     ensures count { vec_len result.1.copiers ≡ vec_len service.copiers }
     ensures copiers_room { vec_capacity service.copiers ≤ vec_capacity result.1.copiers }
 {

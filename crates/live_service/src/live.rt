@@ -92,10 +92,11 @@ where
     pub drain: DrainEnd,
 }
 
-/// Answers the requests of the console, or those of the links that are asked for, over a book that was just opened, while movers and
-/// planners run beside them. The movers have the first of the copiers and the links the next, and all come back in their order; the console has its
-/// own, which the drain has too. Then asks Close, waits for the workers to end, settles the book, and makes rounds until no task and no
-/// job is unfinished.
+/// Answers the requests of the console, or those of the links that are asked for, over a book that
+/// was just opened, while movers and planners run beside them. The movers have the first of the
+/// copiers and the links the next, and all come back in their order; the console has its own, which
+/// the drain has too. Then asks Close, waits for the workers to end, settles the book, and makes
+/// rounds until no task and no job is unfinished.
 ///
 /// # Errors
 ///
@@ -122,19 +123,24 @@ where
     requires few { planners + (movers + links_of serving) < 1048576 }
     requires none { front.service.served.items ≡ [] }
     requires room { links_of serving ≤ vec_capacity front.service.served }
+    // What was done, by whom, and with which copies and replies.
     ensures live { IfOk result (λ r. IsLive A.faults (links_asked serving) book r.book
         (copiers_told K.Copier front) (copiers_told K.Copier r.front) movers planners
         (front_told K.Copier L.Source L.Sink N.Listener front)
         (front_told K.Copier L.Source L.Sink N.Listener r.front)
         (served_told N.Conn.Source N.Conn.Sink r.front.service.served.items) r.end r.drain) }
+    // The journal is a legal history of the book's file, whose lists the admin has.
     ensures file { IfOk result (λ r. r.book.file ≡ book.file) }
     ensures legal { IfOk result (λ r. AreLegal r.book.journal) }
     ensures lists { IfOk result (λ r. IfSome (A.told r.book.admin)
         (λ lists. lists ≡ lists_now (state_of r.book).desk.exec)) }
-    ensures drained { IfOk result (λ r. r.drain ≡ DrainEnd.Drained → IsDone (state_of r.book).desk) }
+    // How it ended.
+    ensures drained { IfOk result
+        (λ r. r.drain ≡ DrainEnd.Drained → IsDone (state_of r.book).desk) }
     ensures late { IfOk result
         (λ r. (number : ℕ) → r.drain ≡ DrainEnd.AdminFault number
         → (1 ≤ r.book.late) ⊎ (18446744073709551615 ≤ r.book.failures)) }
+    // Copiers come back; and without memory to share the book, all as it was.
     ensures count { IfOk result
         (λ r. vec_len r.front.service.copiers ≡ vec_len front.service.copiers) }
     ensures copiers_room { IfOk result

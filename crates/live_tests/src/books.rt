@@ -1,5 +1,6 @@
-// Books over a cluster in memory, of whose calls some fail. Where a call fails that isn't to, the tests panic, in place of `?`, and one
-// function lets each book go: the proof of each drop of a book is long.
+// Books over a cluster in memory, of whose calls some fail. Where a call fails that isn't to, the
+// tests panic, in place of `?`, and one function lets each book go: the proof of each drop of a
+// book is long.
 ghost use Rattle.std.specs.Prelude.{◌≡◌, []};
 
 use cluster_gate::{FailingAdmin, MemoryCluster};
@@ -15,8 +16,8 @@ pub type TestCluster = FailingAdmin<MemoryCluster>;
 /// A book of it.
 pub type TestBook = Book<TestCluster>;
 
-/// The book of a cluster file. Those calls of the cluster fail that have one of these numbers. The first, which installs the lists, has
-/// the number 1.
+/// The book of a cluster file. Those calls of the cluster fail that have one of these numbers. The
+/// first, which installs the lists, has the number 1.
 pub fn book_of<R: Abort>(rt: &R, alloc: Global, text: &str, failing: &[u64]) -> TestBook
     ensures opened { result.journal ≡ [] }
 {

@@ -12,7 +12,8 @@ use std::process::Abort;
 use std::sync::Wait;
 use std::thread::Threads;
 
-// Which calls fail. Those of the cluster and copies are counted from 1 on, and reads and writes of the console from 0 on.
+// Which calls fail. Those of the cluster and copies are counted from 1 on, and reads and writes of
+// the console from 0 on.
 #[derive(Clone, Copy)]
 struct Calls {
     cluster: &'static [u64],
@@ -28,8 +29,9 @@ const NONE: Calls = Calls {
     writes: &[],
 };
 
-// The calls that fail, and how many movers, and as many planners, work beside the console. Then how the console and the drain end, the
-// list in the end, how many copies were told as failed, and what was written.
+// The calls that fail, and how many movers, and as many planners, work beside the console. Then how
+// the console and the drain end, the list in the end, how many copies were told as failed, and what
+// was written.
 #[derive(Clone, Copy)]
 struct Row {
     failing: Calls,
@@ -52,9 +54,11 @@ const GOOD: Row = Row {
     told: ACCEPTED,
 };
 
-// Each call that is made fails in some row, and for each kind of call a row names the first that isn't made any more.
+// Each call that is made fails in some row, and for each kind of call a row names the first that
+// isn't made any more.
 const ROWS: [Row; 13] = [
-    // the first call of the cluster installs its lists, and no service is run where it fails. The next begins the move
+    // the first call of the cluster installs its lists, and no service is run where it fails. The
+    // next begins the move
     Row {
         failing: Calls {
             cluster: &[2],

@@ -1,5 +1,6 @@
-//! Tests of whole live services: of requests, movers and planners that run beside one another. They show what no clause does: that they
-//! are at work at once, that calls with ample memory succeed, and how a service ends whose admin, copier, console or listener fails.
+//! Tests of whole live services: of requests, movers and planners that run beside one another. They
+//! show what no clause does: that they are at work at once, that calls with ample memory succeed,
+//! and how a service ends whose admin, copier, console or listener fails.
 #![tactic(auto)]
 
 #[cfg(test)]

@@ -14,7 +14,8 @@ pub type TestLink = Joined<Failing<MemorySource>, Failing<MemorySink>>;
 /// A copier, of whose copies some fail. The first has the number 1.
 pub type TestCopier = FailingCopier<MemoryCopier>;
 
-/// A listener, of whose calls some fail. The first, which listens, has the number 0, and those behind it accept.
+/// A listener, of whose calls some fail. The first, which listens, has the number 0, and those
+/// behind it accept.
 pub type TestListener = FailingListener<MemoryListener<TestLink>>;
 
 fn numbers<R: Abort>(rt: &R, alloc: Global, numbers: &[u64]) -> Vec<u64> {

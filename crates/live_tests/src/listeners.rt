@@ -51,8 +51,9 @@ const DEAF: Asking = Asking {
     told: "",
 };
 
-// A service: how many movers, and as many planners, work beside the links, the links that come, how many are asked for, and which calls of
-// the listener fail. Then how many links are served, how the front ends, and the list of the one partition.
+// A service: how many movers, and as many planners, work beside the links, the links that come, how
+// many are asked for, and which calls of the listener fail. Then how many links are served, how the
+// front ends, and the list of the one partition.
 struct Row {
     workers: u32,
     links: &'static [Asking],
@@ -181,7 +182,8 @@ fn run_row<R: Threads + Wait + Abort + Sync>(
     run(rt, alloc, setting, outside)
 }
 
-// Where a mover works, the one copy is of the first copier. Elsewhere the drain makes what copies there are.
+// Where a mover works, the one copy is of the first copier. Elsewhere the drain makes what copies
+// there are.
 fn expect_copies<R: Abort>(rt: &R, workers: u32, copiers: &[TestCopier]) {
     for (place, copier) in copiers.iter().enumerate() {
         let moves = workers > 0 && place == 0;

@@ -100,8 +100,8 @@ impl Replay {
     }
 }
 
-// Takes the events of a journal into a fresh book of the same cluster file, none of which is refused. The lists are the same in the
-// end. Answers the replies to requests.
+// Takes the events of a journal into a fresh book of the same cluster file, none of which is
+// refused. The lists are the same in the end. Answers the replies to requests.
 fn replayed<R: Threads + Sync + Abort>(
     rt: &R,
     alloc: Global,

@@ -17,8 +17,8 @@ use std::thread::Threads;
 // A test has so many movers, planners and links at most.
 const MOST: u32 = 9;
 
-/// A cluster file, the calls of the cluster that fail, and who works over it: so many movers and planners, and so many links in place of
-/// the console.
+/// A cluster file, the calls of the cluster that fail, and who works over it: so many movers and
+/// planners, and so many links in place of the console.
 #[derive(Clone, Copy)]
 pub struct Setting {
     pub text: &'static str,
@@ -28,7 +28,8 @@ pub struct Setting {
     pub links: Option<u32>,
 }
 
-/// What a service works with outside its book: the copiers of movers and of links, and that of the console and of the drain.
+/// What a service works with outside its book: the copiers of movers and of links, and that of the
+/// console and of the drain.
 #[derive(Drop)]
 pub struct Outside<K, L, N> {
     pub copiers: Vec<K>,

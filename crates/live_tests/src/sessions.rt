@@ -19,8 +19,8 @@ const REMOVING: Setting = Setting {
     links: None,
 };
 
-// The console's requests are answered, nothing is left to do, and no copy waited in vain. Brokers 2 and 3 have the partitions. The replies
-// are those of the replay.
+// The console's requests are answered, nothing is left to do, and no copy waited in vain. Brokers 2
+// and 3 have the partitions. The replies are those of the replay.
 fn expect_removed<K, L, N: Listener, R: Abort>(rt: &R, over: &Over<K, L, N>, written: &[u8])
 where
     N::Conn: Drop,
@@ -60,7 +60,8 @@ fn two_movers_copy_at_once(rt: HostRuntime) {
     assert_eq!(rt; over.front.copier.copies().len(), 0);
 }
 
-// The first copy waits until both replies are written, and the second request comes only once that copy has begun.
+// The first copy waits until both replies are written, and the second request comes only once that
+// copy has begun.
 #[test]
 fn a_reply_is_written_while_a_copy_is_under_way(rt: HostRuntime) {
     let alloc = rt.alloc();

@@ -36,7 +36,8 @@ pub const STATE: &str = "GET /kafkacruisecontrol/state HTTP/1.1\r\n\r\n";
 pub const AT_REST: &str =
     "HTTP/1.1 200 OK\r\nContent-Type: application/json\r\nContent-Length: 171\r\n\r\n{\"ExecutorState\":{\"aborted\":0,\"aborting\":0,\"completed\":0,\"dead\":0,\"inProgress\":0,\"pending\":0,\"state\":\"NO_TASK_IN_PROGRESS\"},\"MonitorState\":{\"all\":1,\"valid\":0},\"version\":1}";
 
-/// The reply to the removal of brokers 0 and 1, and to the question how far it is while one of its two partitions is being copied.
+/// The reply to the removal of brokers 0 and 1, and to the question how far it is while one of its
+/// two partitions is being copied.
 pub const ACCEPTED_AND_MOVING: &str =
     "HTTP/1.1 202 Accepted\r\nContent-Type: application/json\r\nContent-Length: 83\r\nUser-Task-ID: 00000000-0000-8000-8000-000000000001\r\n\r\n{\"status\":\"Active\",\"userTaskId\":\"00000000-0000-8000-8000-000000000001\",\"version\":1}HTTP/1.1 200 OK\r\nContent-Type: application/json\r\nContent-Length: 198\r\n\r\n{\"ExecutorState\":{\"aborted\":0,\"aborting\":0,\"completed\":0,\"dead\":0,\"inProgress\":1,\"pending\":1,\"state\":\"INTER_BROKER_REPLICA_MOVEMENT_TASK_IN_PROGRESS\"},\"MonitorState\":{\"all\":2,\"valid\":0},\"version\":1}";
 

@@ -13,7 +13,8 @@ use std::marker::Model;
 /// The greatest number of replicas of a partition.
 pub const MAX_REPLICAS: usize = 8;
 
-/// The replica list of each partition, in the order of the partitions. Each has 1 to 8 distinct members.
+/// The replica list of each partition, in the order of the partitions. Each has 1 to 8 distinct
+/// members.
 #[derive(Drop)]
 pub struct Assign {
     lists: Vec<Replicas>,
@@ -87,8 +88,9 @@ fn replica_lists(alloc: Global, lists: Vec<Vec<u32>>) -> Result<Vec<Replicas>, M
 }
 
 impl Assign {
-    /// The assignment of these lists to the case's partitions, or their first fault. Of each list in order: it is
-    /// empty; it has more than 8 members; then, member by member, it is unknown, or it stands there already.
+    /// The assignment of these lists to the case's partitions, or their first fault. Of each list
+    /// in order: it is empty; it has more than 8 members; then, member by member, it is unknown, or
+    /// it stands there already.
     pub fn new(alloc: Global, case: &Case, lists: Vec<Vec<u32>>) -> Result<Assign, CaseFault>
         requires one_each { length lists.items ≡ length case.now.parts }
         ensures ok { IfOk result (λ a. a ≡ map (λ list. list.items) lists.items) }

@@ -17,10 +17,12 @@ use plan_terms::Memory;
 use std::alloc::Global;
 use std::marker::Model;
 
-/// The lists of a plan in the making, which actions change, with the cluster whose loads they put on brokers.
+/// The lists of a plan in the making, which actions change, with the cluster whose loads they put
+/// on brokers.
 ///
-/// Brokers, partitions and topics go by their places in the case that the book was made for, which it keeps.
-/// What brokers carry, and what all carry together, stands in a table that each change keeps, so no reader looks at the lists.
+/// Brokers, partitions and topics go by their places in the case that the book was made for, which
+/// it keeps. What brokers carry, and what all carry together, stands in a table that each change
+/// keeps, so no reader looks at the lists.
 #[derive(Drop)]
 pub struct LoadBook {
     case: Case,
@@ -64,13 +66,13 @@ impl LoadBook {
         })
     }
 
-    /// Sums afresh what the lists put on brokers. Out of memory, the book keeps its table.
+    /// Sums afresh what the lists put on each broker. What they put on all together was summed when
+    /// the book was made, and no change of the book changes it. Out of memory, the book keeps its
+    /// table.
     pub fn resum(&mut self, alloc: Global) -> Result<(), Memory>
         ensures { self.new ≡ self.old }
     {
-        let totals = Row::totals(alloc, &self.case, &self.lists)?;
         self.table = Table::new(alloc, &self.case, &self.lists)?;
-        self.totals = totals;
         Ok(())
     }
 
@@ -131,8 +133,9 @@ impl LoadBook {
         self.table.amount(&self.case, kind, broker)
     }
 
-    /// The load of a resource on a broker: the leader's of each partition that it leads, the follower's at each other
-    /// place. The resources are 0 CPU, 1 NW_IN, 2 NW_OUT, 3 DISK. Below 2^49.
+    /// The load of a resource on a broker: the leader's of each partition that it leads, the
+    /// follower's at each other place. The resources are 0 CPU, 1 NW_IN, 2 NW_OUT, 3 DISK. Below
+    /// 2^49.
     pub fn load(&self, broker: usize, res: usize) -> u128
         requires broker { broker < length self.now.cluster.brokers }
         requires res { res < 4 }
@@ -163,12 +166,13 @@ impl LoadBook {
         self.amount(Amount::Leaders, broker)
     }
 
-    /// What a broker would send to clients if it led each partition of which it is a member: the leaders' NW_OUT over
-    /// all its places. Below 2^49.
+    /// What a broker would send to clients if it led each partition of which it is a member: the
+    /// leaders' NW_OUT over all its places. Below 2^49.
     pub fn potential_out(&self, broker: usize) -> u128
         requires { broker < length self.now.cluster.brokers }
         ensures value { result
-            ≡ potential_out self.now.cluster (id_at self.now.cluster.brokers broker) self.now.lists }
+            ≡ potential_out self.now.cluster (id_at self.now.cluster.brokers broker)
+            self.now.lists }
         ensures small { result < 2 ^ 49 }
     {
         u128::from(self.amount(Amount::PotentialOut, broker))
@@ -184,7 +188,8 @@ impl LoadBook {
         u128::from(self.amount(Amount::LeaderIn, broker))
     }
 
-    /// The number of a broker's replicas in a topic, by the topic's place among the topics. At most 80,000.
+    /// The number of a broker's replicas in a topic, by the topic's place among the topics. At most
+    /// 80,000.
     pub fn topic_count(&self, topic: usize, broker: usize) -> u64
         requires topic { topic < length (topics self.now.cluster.parts) }
         requires broker { broker < length self.now.cluster.brokers }
@@ -196,7 +201,8 @@ impl LoadBook {
         self.amount(Amount::OfTopic(topic), broker)
     }
 
-    /// The number of a topic's partitions that a broker leads, by the topic's place among the topics. At most 80,000.
+    /// The number of a topic's partitions that a broker leads, by the topic's place among the
+    /// topics. At most 80,000.
     pub fn topic_leaders(&self, topic: usize, broker: usize) -> u64
         requires topic { topic < length (topics self.now.cluster.parts) }
         requires broker { broker < length self.now.cluster.brokers }
@@ -222,8 +228,8 @@ impl LoadBook {
         self.totals.total(&self.case, kind)
     }
 
-    /// The load of a resource on all brokers together. The lists alone tell it, and no change of the book changes it. Below
-    /// 2^49.
+    /// The load of a resource on all brokers together. The lists alone tell it, and no change of
+    /// the book changes it. Below 2^49.
     pub fn total_load(&self, res: usize) -> u128
         requires { res < 4 }
         ensures value { result
@@ -250,7 +256,8 @@ impl LoadBook {
         self.total(Amount::Leaders)
     }
 
-    /// What all brokers would send to clients together, if each led all partitions of which it is a member. Below 2^49.
+    /// What all brokers would send to clients together, if each led all partitions of which it is a
+    /// member. Below 2^49.
     pub fn total_potential_out(&self) -> u128
         ensures value { result
             ≡ whole (λ p. slice_index p.loads.lead NW_OUT) (λ p. slice_index p.loads.lead NW_OUT)
@@ -301,7 +308,8 @@ impl LoadBook {
         requires known { IsTrue (is_known case.now broker) }
         ensures { self.new
             ≡ record self.old {
-              lists = slice_set self.old.lists part (slice_set (list_of self.old.lists part) place broker);
+              lists = slice_set self.old.lists part
+                  (slice_set (list_of self.old.lists part) place broker);
             } }
     {
         let _parts = self.case.parts();
@@ -317,7 +325,8 @@ impl LoadBook {
         requires place { place < length (list_of self.old.lists part) }
         ensures { self.new
             ≡ record self.old {
-              lists = slice_set self.old.lists part (exchange_at place (list_of self.old.lists part));
+              lists = slice_set self.old.lists part
+                  (exchange_at place (list_of self.old.lists part));
             } }
     {
         let _parts = self.case.parts();

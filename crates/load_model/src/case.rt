@@ -1,5 +1,5 @@
 // Brokers and partitions of a cluster, as one request sees them.
-ghost use Rattle.std.specs.Prelude.{◌≡◌, ◌≤◌, ◌<◌, ◌^◌, ◌≢◌, ℕ, None, Some, IfOk, IfErr, OnOk, length, map, option_map, position, slice_index, ◌==◌, ◌+◌, if◌then◌else◌};
+ghost use Rattle.std.specs.Prelude.{◌≡◌, ◌≤◌, ◌<◌, ◌^◌, ◌≢◌, ℕ, None, Some, IfOk, IfErr, IfSome, OnOk, length, map, option_map, position, slice_index, ◌==◌, ◌+◌, if◌then◌else◌};
 ghost use Rattle.std.specs.List.{All, count_by};
 ghost use Rattle.plan_terms.specs.Cluster.{broker_of, id_at, some_broker};
 ghost use Rattle.plan_terms.specs.Faults.{IsCase, case_fault, cluster_fault, leaders_repeat, topics};
@@ -19,8 +19,8 @@ use std::marker::Model;
 
 /// The brokers and the partitions of a cluster, each in their order, and the options of a request.
 ///
-/// A broker's place is its place here, and a topic's that of its first partition among the topics. Ids are distinct, and
-/// so are the pairs of topic and number.
+/// A broker's place is its place here, and a topic's that of its first partition among the topics.
+/// Ids are distinct, and so are the pairs of topic and number.
 #[derive(Drop)]
 pub struct Case {
     brokers: Vec<Broker>,
@@ -57,7 +57,8 @@ fn index_of(
     parts: &[Part],
 ) -> Result<(IndexSet<u32>, TopicPlaces), CaseFault>
     ensures ids { IfOk result (λ kept. kept.0.keys ≡ map (λ b. b.id) brokers.now) }
-    ensures places { IfOk result (λ kept. AreTopicPlaces parts.now kept.1.places.items kept.1.count) }
+    ensures places { IfOk result
+        (λ kept. AreTopicPlaces parts.now kept.1.places.items kept.1.count) }
     ensures faultless { OnOk result (case_fault brokers.now parts.now ≡ None) }
     ensures fault { IfErr result
         (λ e. e ≢ CaseFault.Memory → case_fault brokers.now parts.now ≡ Some e) }
@@ -109,9 +110,10 @@ fn copy_parts(alloc: Global, parts: &[Part]) -> Result<Vec<Part>, Memory>
 }
 
 impl Case {
-    /// The case of these brokers and partitions, or their first fault: the first limit that is broken of brokers,
-    /// topics, partitions, loads, capacities and chunks; then the first broker that stands twice; then the first
-    /// partition that stands twice; then the first topic that the least leaders name twice.
+    /// The case of these brokers and partitions, or their first fault: the first limit that is
+    /// broken of brokers, topics, partitions, loads, capacities and chunks; then the first broker
+    /// that stands twice; then the first partition that stands twice; then the first topic that the
+    /// least leaders name twice.
     #[tactic(auto, unfolding(plan_terms::specs::Faults::cluster_fault))]
     pub fn new(
         alloc: Global,
@@ -168,13 +170,32 @@ impl Case {
         &self.options
     }
 
+    // The place of the broker of this id, where the ids are consecutive from the first one on.
+    fn distance(&self, id: u32) -> Option<usize>
+        ensures { IfSome result
+            (λ k. (k < length self.now.brokers) × (id_at self.now.brokers k ≡ id)) }
+    {
+        let brokers = self.brokers.as_slice();
+        if brokers.is_empty() || id < brokers[0].id {
+            return None;
+        }
+        let place = (id - brokers[0].id) as usize;
+        if place < brokers.len() && brokers[place].id == id {
+            return Some(place);
+        }
+        None
+    }
+
     /// The place of the broker of this id.
     pub fn place(&self, id: u32) -> Option<usize>
         ensures place { result ≡ position (λ b. b.id == id) self.now.brokers }
         ensures only { (k : ℕ) → k < length self.now.brokers → id_at self.now.brokers k ≡ id
             → result ≡ Some k }
     {
-        self.ids.get_index_of(&id)
+        match self.distance(id) {
+            Some(place) => Some(place),
+            None => self.ids.get_index_of(&id),
+        }
     }
 
     /// The broker of this id.
@@ -242,7 +263,8 @@ impl Case {
         self.topics.count
     }
 
-    /// The place of a partition's topic among the topics, which stand in the order of their first partitions.
+    /// The place of a partition's topic among the topics, which stand in the order of their first
+    /// partitions.
     pub fn topic(&self, part: usize) -> usize
         requires { part < length self.now.parts }
         ensures within { result < length (topics self.now.parts) }
@@ -256,7 +278,8 @@ impl Case {
     /// Gives the broker at a place another state.
     pub fn set_state(&mut self, broker: usize, state: BrokerState)
         requires { broker < length self.old.brokers }
-        ensures { self.new ≡ record self.old { brokers = with_state self.old.brokers broker state } }
+        ensures { self.new
+            ≡ record self.old { brokers = with_state self.old.brokers broker state } }
     {
         let was_new = self.brokers[broker].state.is_new();
         self.brokers[broker].state = state;
@@ -277,7 +300,8 @@ impl Case {
     /// Excludes the topic of the partition at a place, or no longer does.
     pub fn set_excluded(&mut self, part: usize, excluded: bool)
         requires { part < length self.old.parts }
-        ensures { self.new ≡ record self.old { parts = with_excluded self.old.parts part excluded } }
+        ensures { self.new
+            ≡ record self.old { parts = with_excluded self.old.parts part excluded } }
     {
         self.parts[part].excluded = excluded;
     }

@@ -1,4 +1,5 @@
-//! A cluster as one request sees it, an assignment of its partitions, and the book of a plan in the making.
+//! A cluster as one request sees it, an assignment of its partitions, and the book of a plan in the
+//! making.
 #![tactic(auto)]
 
 mod amounts;

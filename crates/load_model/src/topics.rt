@@ -6,7 +6,8 @@ use indexmap::IndexSet;
 use plan_terms::{Memory, Part};
 use std::alloc::Global;
 
-/// The place of each partition's topic among the topics, which stand in the order of their first partitions.
+/// The place of each partition's topic among the topics, which stand in the order of their first
+/// partitions.
 #[derive(Drop)]
 pub struct TopicPlaces {
     /// One place for each partition.

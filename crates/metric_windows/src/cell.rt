@@ -4,7 +4,8 @@ ghost use Rattle.metric_windows.specs.Tables.{empty_cell, IsCell};
 
 use crate::tally::Tally;
 
-/// The tally of a partition in one window. A cell serves many windows in turn, and says which one it has now.
+/// The tally of a partition in one window. A cell serves many windows in turn, and says which one
+/// it has now.
 #[derive(Clone, Copy)]
 pub struct Cell {
     pub window: u64,

@@ -19,10 +19,11 @@ pub const MAX_SAMPLES: u32 = 65_536;
 
 /// Samples of the loads of partitions, averaged over windows of time.
 ///
-/// A window is a span of `width` milliseconds, and the one of a time is `time / width`, rounded down. The last `keep`
-/// windows up to the greatest one that has a sample are kept. Only the number and the sums of the samples are stored, so
-/// memory and time don't grow with their number. The idea is that of Cruise Control's metric windows (the Cruise Control
-/// wiki); the rules in detail are this project's own.
+/// A window is a span of `width` milliseconds, and the one of a time is `time / width`, rounded
+/// down. The last `keep` windows up to the greatest one that has a sample are kept. Only the number
+/// and the sums of the samples are stored, so memory and time don't grow with their number. The
+/// idea is that of Cruise Control's metric windows (the Cruise Control wiki); the rules in detail
+/// are this project's own.
 #[derive(Drop)]
 pub struct Windows {
     width: u64,
@@ -58,9 +59,9 @@ impl Model for Windows {
 impl Windows {
     /// Windows without a sample.
     ///
-    /// There are `parts` partitions, at most 10,000. A window has `width` milliseconds, 1 to 86,400,000, and `keep` of
-    /// them are kept, 1 to 100. `least` samples, 1 to 65,536, make a window's value, and `need` windows with a value,
-    /// 1 to 100, make a partition's load.
+    /// There are `parts` partitions, at most 10,000. A window has `width` milliseconds, 1 to
+    /// 86,400,000, and `keep` of them are kept, 1 to 100. `least` samples, 1 to 65,536, make a
+    /// window's value, and `need` windows with a value, 1 to 100, make a partition's load.
     pub fn new(
         alloc: Global,
         parts: u32,
@@ -164,10 +165,11 @@ impl Windows {
         };
     }
 
-    /// Adds a sample of a partition, taken at a time in milliseconds. Each load is below 2^32. It takes no memory.
+    /// Adds a sample of a partition, taken at a time in milliseconds. Each load is below 2^32. It
+    /// takes no memory.
     ///
-    /// A sample is refused where its window is no longer kept, or else where the partition has 65,536 samples in the
-    /// window. A refusal changes nothing.
+    /// A sample is refused where its window is no longer kept, or else where the partition has
+    /// 65,536 samples in the window. A refusal changes nothing.
     pub fn add(&mut self, part: u32, time: u64, sample: Loads) -> Result<(), SampleFault>
         requires part { part < self.old.parts }
         requires loads { IsLoads sample }
@@ -303,12 +305,13 @@ impl Windows {
         self.load(part).is_some()
     }
 
-    /// The load of a partition: the average of the values of the kept windows that have one, number by number and
-    /// rounded down. `None` exactly where fewer than `need` of them have one.
+    /// The load of a partition: the average of the values of the kept windows that have one, number
+    /// by number and rounded down. `None` exactly where fewer than `need` of them have one.
     ///
-    /// A window's value is the average of its samples, where there are `least` of them, or at least half as many, rounded
-    /// up (AVG_AVAILABLE). With fewer it is the average of all samples of the window and those before and after, where
-    /// both are kept and have `least` samples each (AVG_ADJACENT). It takes no memory.
+    /// A window's value is the average of its samples, where there are `least` of them, or at least
+    /// half as many, rounded up (AVG_AVAILABLE). With fewer it is the average of all samples of the
+    /// window and those before and after, where both are kept and have `least` samples each
+    /// (AVG_ADJACENT). It takes no memory.
     pub fn load_of(&self, part: u32) -> Option<Loads>
         requires { part < self.now.parts }
         ensures value { (samples : List Sample) → StandsFor self.now samples

@@ -1,4 +1,5 @@
-// The excesses of the goals on a small cluster whose first broker is alive, lost or demoted, and on the greatest numbers.
+// The excesses of the goals on a small cluster whose first broker is alive, lost or demoted, and on
+// the greatest numbers.
 ghost use Rattle.cluster_json.specs.Ranges.{IsFile};
 ghost use Rattle.plan_terms.specs.Belongs.{IsBookOf};
 ghost use Rattle.plan_terms.specs.Resources.{NW_OUT};
@@ -14,9 +15,9 @@ use std::alloc::{AllocError, Global};
 use std::process::Abort;
 use test_clusters::{assignment, cluster};
 
-// Three brokers, the first of which is in some state, and five partitions of two topics. The first broker leads all but the one
-// with most load. Thresholds differ by resource and by goal, loads exceed the limits, and both topics and one that isn't there
-// have least leaders.
+// Three brokers, the first of which is in some state, and five partitions of two topics. The first
+// broker leads all but the one with most load. Thresholds differ by resource and by goal, loads
+// exceed the limits, and both topics and one that isn't there have least leaders.
 const SMALL: (&str, &str) = (
     r#"{"version":2,"brokers":[{"id":0,"state":"#,
     r#","rack":"near"},{"id":1,"rack":"near"},{"id":2,"rack":"far"}],"brokerCapacities":[{"brokerId":"-1","capacity":{"CPU":"100","NW_IN":"110","NW_OUT":"120","DISK":"130"}},{"brokerId":"1","capacity":{"CPU":"300","NW_IN":"310","NW_OUT":"320","DISK":"330"}}],"partitions":[{"topic":"b","partition":0,"replicas":[0,1],"load":{"leader":{"CPU":10,"NW_IN":20,"NW_OUT":30,"DISK":40},"follower":{"CPU":1,"NW_IN":2,"DISK":4}}},{"topic":"a","partition":0,"replicas":[0],"load":{"leader":{"CPU":100,"NW_IN":200,"NW_OUT":300,"DISK":400},"follower":{"CPU":10,"NW_IN":20,"DISK":40}}},{"topic":"b","partition":1,"replicas":[1,0],"load":{"leader":{"CPU":10000,"NW_IN":20000,"NW_OUT":30000,"DISK":40000},"follower":{"CPU":1000,"NW_IN":2000,"DISK":4000}}},{"topic":"a","partition":1,"replicas":[0,2],"load":{"leader":{"CPU":1000,"NW_IN":2000,"NW_OUT":3000,"DISK":4000},"follower":{"CPU":100,"NW_IN":200,"DISK":400}}},{"topic":"a","partition":2,"replicas":[0],"load":{"leader":{"CPU":30,"NW_IN":60,"NW_OUT":90,"DISK":120},"follower":{"CPU":3,"NW_IN":6,"DISK":12}}}],"config":{"cpu.capacity.threshold":"0.5","network.inbound.capacity.threshold":"0.6","network.outbound.capacity.threshold":"0.7","disk.capacity.threshold":"0.8","cpu.balance.threshold":"1.1","network.inbound.balance.threshold":"1.2","network.outbound.balance.threshold":"1.3","disk.balance.threshold":"1.4","replica.count.balance.threshold":"1.2","leader.replica.count.balance.threshold":"1.5","topic.replica.count.balance.threshold":"1","max.replicas.per.broker":"1"},"minTopicLeaders":[{"topic":"a","leaders":3},{"topic":"gone","leaders":5},{"topic":"b","leaders":1}]}"#,

@@ -70,12 +70,14 @@ pub trait Goal {
         requires known { IsTrue (targets_known case.now action) }
         ensures { IsTrue result ↔ Lessens (meaning self.now case.now) book.now.lists action };
 
-    /// Where the quantity of the broker at a place lies, and so which of its actions may lessen the measure.
+    /// Where the quantity of the broker at a place lies, and so which of its actions may lessen the
+    /// measure.
     fn heat(&self, case: &Case, book: &LoadBook, broker: usize) -> Heat
         requires made { made_for self.now case.now }
         requires belongs { IsBookOf case.now book.now }
         requires broker { broker < length case.now.brokers }
-        ensures { result ≡ heat_at self.now case.now book.now.lists (id_at case.now.brokers broker) };
+        ensures { result
+            ≡ heat_at self.now case.now book.now.lists (id_at case.now.brokers broker) };
 
     /// Whether an action of the partition may lessen the measure.
     fn stirs(&self, case: &Case, book: &LoadBook, part: u32) -> bool
@@ -84,22 +86,24 @@ pub trait Goal {
         requires part { part < length case.now.parts }
         ensures { result ≡ stirs_at self.now case.now book.now.lists part };
 
-    /// What one replica of a partition adds to its broker's quantity, as the leader or as a follower. `None` where the
-    /// goal has no quantity of brokers.
+    /// What one replica of a partition adds to its broker's quantity, as the leader or as a
+    /// follower. `None` where the goal has no quantity of brokers.
     fn weight(&self, case: &Case, part: u32, leads: bool) -> Option<u64>
         requires made { made_for self.now case.now }
         requires part { part < length case.now.parts }
         ensures { result
             ≡ option_map (λ w. part_weight w case.now.parts part leads) (weighs self.now) };
 
-    /// What all brokers carry together, for a goal that has a quantity of brokers. No action changes it.
+    /// What all brokers carry together, for a goal that has a quantity of brokers. No action
+    /// changes it.
     fn whole(&self, case: &Case, book: &LoadBook) -> Option<u128>
         requires made { made_for self.now case.now }
         requires belongs { IsBookOf case.now book.now }
-        ensures { result ≡ option_map (λ w. total w case.now.parts book.now.lists) (weighs self.now) };
+        ensures { result
+            ≡ option_map (λ w. total w case.now.parts book.now.lists) (weighs self.now) };
 
-    /// How much the broker at a place may give and take, where all brokers carry `all` together. `None` where the goal has
-    /// no quantity of brokers.
+    /// How much the broker at a place may give and take, where all brokers carry `all` together.
+    /// `None` where the goal has no quantity of brokers.
     fn room(&self, case: &Case, book: &LoadBook, all: u128, broker: usize) -> Option<Room>
         requires made { made_for self.now case.now }
         requires belongs { IsBookOf case.now book.now }
@@ -111,24 +115,33 @@ pub trait Goal {
             (weighs self.now) };
 
     /// Every measure is below 2^120.
-    ghost small: { (g : Self) (c : Cluster) (lists : Lists) → made_for g c → IsCase c → Belongs c lists → measure (meaning g c) lists < 2 ^ 120 };
+    ghost small: { (g : Self) (c : Cluster) (lists : Lists) → made_for g c → IsCase c
+        → Belongs c lists → measure (meaning g c) lists < 2 ^ 120 };
 
     /// An action of two cold brokers doesn't lessen the measure.
-    ghost cold_pairs: { (g : Self) (c : Cluster) (lists : Lists) → made_for g c → IsCase c → Belongs c lists → ColdPairs (meaning g c) (heat_at g c lists) lists };
+    ghost cold_pairs: { (g : Self) (c : Cluster) (lists : Lists) → made_for g c → IsCase c
+        → Belongs c lists → ColdPairs (meaning g c) (heat_at g c lists) lists };
 
     /// An action none of whose partitions stirs doesn't lessen it.
-    ghost still_parts: { (g : Self) (c : Cluster) (lists : Lists) → made_for g c → IsCase c → Belongs c lists → StillParts (meaning g c) (stirs_at g c lists) lists };
+    ghost still_parts: { (g : Self) (c : Cluster) (lists : Lists) → made_for g c → IsCase c
+        → Belongs c lists → StillParts (meaning g c) (stirs_at g c lists) lists };
 
-    /// A trade of equal weights doesn't lessen it; nor does one that gives no less to a broker that isn't below its bounds
-    /// and takes no less from one that isn't above them.
-    ghost idle_trades: { (g : Self) (c : Cluster) (lists : Lists) → made_for g c → IsCase c → Belongs c lists → IfSome (weighs g) (IdleTrades (meaning g c) (heat_at g c lists) c.parts lists) };
+    /// A trade of equal weights doesn't lessen it; nor does one that gives no less to a broker that
+    /// isn't below its bounds and takes no less from one that isn't above them.
+    ghost idle_trades: { (g : Self) (c : Cluster) (lists : Lists) → made_for g c → IsCase c
+        → Belongs c lists
+        → IfSome (weighs g) (IdleTrades (meaning g c) (heat_at g c lists) c.parts lists) };
 
     /// It accepts an action exactly where the trade stays in the rooms of its two brokers.
-    ghost rooms_decide: { (g : Self) (c : Cluster) (lists : Lists) → made_for g c → IsCase c → Belongs c lists → IfSome (weighs g) (RoomsDecide (meaning g c) (room_at g c lists) c.parts lists) };
+    ghost rooms_decide: { (g : Self) (c : Cluster) (lists : Lists) → made_for g c → IsCase c
+        → Belongs c lists
+        → IfSome (weighs g) (RoomsDecide (meaning g c) (room_at g c lists) c.parts lists) };
 
     /// An action leaves the room of every broker but its giver and its taker as it was.
-    ghost rooms_stay: { (g : Self) (c : Cluster) (lists : Lists) → made_for g c → Belongs c lists → (a : Action) → IsTrue (fits lists a)
-        → (k : ℕ) → (k ≡ giver lists a → ⊥) → (k ≡ taker a → ⊥) → room_at g c (after a lists) k ≡ room_at g c lists k };
+    ghost rooms_stay: { (g : Self) (c : Cluster) (lists : Lists) → made_for g c → Belongs c lists
+        → (a : Action) → IsTrue (fits lists a)
+        → (k : ℕ) → (k ≡ giver lists a → ⊥) → (k ≡ taker a → ⊥)
+        → room_at g c (after a lists) k ≡ room_at g c lists k };
 }
 
 /// The sum of a goal's excesses, below 2^120. The goal is met where it is 0.

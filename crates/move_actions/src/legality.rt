@@ -98,11 +98,13 @@ pub fn is_legal_on(case: &Case, lists: &[Replicas], action: Action) -> bool
 
 /// Whether the action is legal on the book's lists: see [`Action`] for what each does.
 ///
-/// A move needs a source that is a member and a target that is a live broker and none. It is legal where its source is
-/// lost, and where the partition's topic isn't excluded, more than leaders may change, and the target is new or no
-/// broker is. A lead needs a live member other than the first, and a topic that isn't excluded or a first member that
-/// is lost or demoted. A swap goes from a partition to a later one, exchanges two live brokers that are each a member
-/// of the one list alone, and needs that neither topic is excluded, more than leaders may change and no broker is new.
+/// A move needs a source that is a member and a target that is a live broker and none. It is legal
+/// where its source is lost, and where the partition's topic isn't excluded, more than leaders may
+/// change, and the target is new or no broker is. A lead needs a live member other than the first,
+/// and a topic that isn't excluded or a first member that is lost or demoted. A swap goes from a
+/// partition to a later one, exchanges two live brokers that are each a member of the one list
+/// alone, and needs that neither topic is excluded, more than leaders may change and no broker is
+/// new.
 pub fn legal(case: &Case, book: &LoadBook, action: Action) -> bool
     ensures { result ≡ is_legal case.now book.now.lists action }
 {

@@ -1,4 +1,5 @@
-//! Actions on replica lists: which are legal, all of them in order, what each does, and what a goal says of one.
+//! Actions on replica lists: which are legal, all of them in order, what each does, and what a goal
+//! says of one.
 #![tactic(auto)]
 
 mod effects;

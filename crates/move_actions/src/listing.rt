@@ -264,8 +264,8 @@ pub fn legal_leads(
     Ok(out)
 }
 
-/// The legal swaps of one partition with later ones, by the place of its broker in the case, the other partition, and
-/// the place of the other broker.
+/// The legal swaps of one partition with later ones, by the place of its broker in the case, the
+/// other partition, and the place of the other broker.
 pub fn legal_swaps(
     alloc: Global,
     case: &Case,
@@ -282,9 +282,9 @@ pub fn legal_swaps(
     Ok(out)
 }
 
-/// Every legal action on the lists, once, in order: the moves by partition and the places of source and target in the
-/// case; the leads by partition and the new leader's place; the swaps by partition, the place of its broker, the other
-/// partition and the place of the other broker.
+/// Every legal action on the lists, once, in order: the moves by partition and the places of source
+/// and target in the case; the leads by partition and the new leader's place; the swaps by
+/// partition, the place of its broker, the other partition and the place of the other broker.
 #[tactic(auto, unfolding(plan_terms::specs::Legal::all_actions))]
 pub fn all_actions(alloc: Global, case: &Case, lists: &Assign) -> Result<Vec<Action>, Memory>
     ensures { IfOk result (λ v. v.items ≡ all_actions case.now lists.now) }

@@ -80,8 +80,8 @@ fn rounds<A: Admin, K: Copier, R: Threads + Sync>(
     }
 }
 
-/// Makes rounds until no task and no job is unfinished. It ends, since each round leaves less to do. The copies that it makes are
-/// just those that its entries name.
+/// Makes rounds until no task and no job is unfinished. It ends, since each round leaves less to
+/// do. The copies that it makes are just those that its entries name.
 pub fn drain<A: Admin, K: Copier, R: Threads + Sync>(
     rt: &R,
     alloc: Global,

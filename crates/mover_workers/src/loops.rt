@@ -43,8 +43,8 @@ pub fn make_plans<X: Rests, R: Threads + Wait + Sync>(
     unreachable!()
 }
 
-/// Takes and does work. Where a plan is being made it plans, and else rests where there is none, until Close was asked and nothing is
-/// executed.
+/// Takes and does work. Where a plan is being made it plans, and else rests where there is none,
+/// until Close was asked and nothing is executed.
 pub fn make_moves<X: Rests, K: Copier, R: Threads + Wait + Sync>(
     rt: &R,
     alloc: Global,

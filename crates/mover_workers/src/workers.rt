@@ -17,8 +17,8 @@ use std::sync::Wait;
 use std::thread::Threads;
 use turn_book::{Pass, Turn};
 
-/// Makes rounds, until so many were done or one finds neither a job nor work, which isn't counted. The pass comes back with their
-/// entries.
+/// Makes rounds, until so many were done or one finds neither a job nor work, which isn't counted.
+/// The pass comes back with their entries.
 pub fn pump<A: Admin, K: Copier, R: Threads + Wait + Sync>(
     rt: &R,
     alloc: Global,
@@ -41,7 +41,8 @@ pub fn pump<A: Admin, K: Copier, R: Threads + Wait + Sync>(
     (caller.into_pass(), end)
 }
 
-/// Plans jobs, and rests where there is none, until Close was asked. The pass comes back with its entries.
+/// Plans jobs, and rests where there is none, until Close was asked. The pass comes back with its
+/// entries.
 pub fn planner_loop<A: Admin, R: Threads + Wait + Sync>(
     rt: &R,
     alloc: Global,
@@ -62,8 +63,8 @@ pub fn planner_loop<A: Admin, R: Threads + Wait + Sync>(
     (caller.into_pass(), end)
 }
 
-/// Takes and does work. While a plan is being made it plans, and else rests where there is no work, until Close was asked and nothing
-/// is executed. The pass comes back with its entries.
+/// Takes and does work. While a plan is being made it plans, and else rests where there is no work,
+/// until Close was asked and nothing is executed. The pass comes back with its entries.
 pub fn mover_loop<A: Admin, K: Copier, R: Threads + Wait + Sync>(
     rt: &R,
     alloc: Global,

@@ -17,8 +17,8 @@ pub struct FailingListener<L> {
 }
 
 impl<L> FailingListener<L> {
-    /// The calls with these numbers are to fail, whether they listen or accept. The first call has the number 0, and an
-    /// empty list lets every call through.
+    /// The calls with these numbers are to fail, whether they listen or accept. The first call has
+    /// the number 0, and an empty list lets every call through.
     pub fn new(inner: L, calls: Vec<u64>) -> Self
         ensures inner { result.inner ≡ inner }
         ensures listed { result.calls.listed.items ≡ calls.items }

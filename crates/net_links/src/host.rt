@@ -1,5 +1,5 @@
-// A listener and links over the system's sockets. Nothing is told of them. Each failure is counted, by a count that stays
-// at its greatest value.
+// A listener and links over the system's sockets. Nothing is told of them. Each failure is counted,
+// by a count that stays at its greatest value.
 ghost use Rattle.std.specs.Prelude.{◌≡◌, None, refl, IfOk, IsErr, IsSome, OnErr, OnOk};
 ghost use Rattle.net_links.specs.Links.{IsFresh, with_link};
 ghost use Rattle.cc_base.specs.Outside.{HasCause};
@@ -9,8 +9,9 @@ use cc_base::{Failed, Link, Sink, Source};
 use std::io::{self, Read, Write};
 use std::net::{Net, OpenListener, TcpListener};
 
-/// A connection of the system. Nothing is told of its bytes, and a call that was interrupted (`ErrorKind::Interrupted`)
-/// counts as a fault, as does a read after the other side reset the connection, and a write that takes none of some bytes.
+/// A connection of the system. Nothing is told of its bytes, and a call that was interrupted
+/// (`ErrorKind::Interrupted`) counts as a fault, as does a read after the other side reset the
+/// connection, and a write that takes none of some bytes.
 #[derive(Drop)]
 pub struct HostLink<S> {
     stream: S,
@@ -74,8 +75,8 @@ impl<S: Read + Write> Link for HostLink<S> {
     ghost beside_sink = { λ _. refl };
 }
 
-/// A listener of the system. Nothing is told of the links that it accepted, and a call that was interrupted
-/// (`ErrorKind::Interrupted`) counts as a fault.
+/// A listener of the system. Nothing is told of the links that it accepted, and a call that was
+/// interrupted (`ErrorKind::Interrupted`) counts as a fault.
 #[derive(Drop)]
 pub struct HostListener<R: Net> {
     rt: R,
@@ -145,7 +146,8 @@ impl<R: Net> Listener for HostListener<R> {
               sink_faults = ⟦<HostLink<R::Stream> as Sink>⟧.faults link;
               left = ⟦<HostLink<R::Stream> as Source>⟧.left link;
             })) }
-        ensures fresh { IfOk result (λ link. IsFresh (⟦<HostLink<R::Stream> as Sink>⟧.written link)) }
+        ensures fresh { IfOk result
+            (λ link. IsFresh (⟦<HostLink<R::Stream> as Sink>⟧.written link)) }
         ensures failed { OnErr result
             (⟦<Self as Listener>⟧.accepted self.new ≡ ⟦<Self as Listener>⟧.accepted self.old) }
     {

@@ -1,4 +1,5 @@
-//! Links that are accepted from a listener: the trait, and its implementations over memory and over the system's sockets.
+//! Links that are accepted from a listener: the trait, and its implementations over memory and over
+//! the system's sockets.
 #![tactic(auto)]
 
 mod failing;

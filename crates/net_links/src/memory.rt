@@ -16,7 +16,8 @@ pub struct MemoryListener<C: Link> {
     given: Snapshot<Vec<C>>,
     faults: u64,
     ghost fresh: { ∥ AreFresh C.written (into_iter_items waiting) ∥₁ },
-    ghost rest: { ∥ given.value.items ≡ handed_out given.value.items (into_iter_items waiting) ++ into_iter_items waiting ∥₁ },
+    ghost rest: { ∥ given.value.items
+        ≡ handed_out given.value.items (into_iter_items waiting) ++ into_iter_items waiting ∥₁ },
 }
 
 impl<C: Link> MemoryListener<C> {

@@ -158,7 +158,8 @@ impl<R: ListRule> Goal for PartitionGoal<R> {
         }
     }
 
-    // Which brokers hold what exceeds the rule isn't told: that takes a look at each list, and the partitions tell more.
+    // Which brokers hold what exceeds the rule isn't told: that takes a look at each list, and the
+    // partitions tell more.
     fn heat(&self, _case: &Case, _book: &LoadBook, _broker: usize) -> Heat {
         Heat::Other
     }
@@ -179,7 +180,9 @@ impl<R: ListRule> Goal for PartitionGoal<R> {
         None
     }
 
-    ghost small = { λ g c lists _ is_case fits. let limits = Limits-case c is_case in per_partition-fits_120_bits (R.hard g.rule) (R.list_excess g.rule c) c lists fits limits.few_parts (R.within g.rule c) };
+    ghost small = { λ g c lists _ is_case fits. let limits = Limits-case c is_case in
+        per_partition-fits_120_bits (R.hard g.rule) (R.list_excess g.rule c) c lists fits
+        limits.few_parts (R.within g.rule c) };
 
     ghost cold_pairs = { λ g c lists _ _ _. hot-cold_pairs
         (per_partition (R.hard g.rule) (R.list_excess g.rule c) c) lists };

@@ -59,7 +59,8 @@ fn action_fault<G: Goal>(
     None
 }
 
-// Applies the action, and sums the loads afresh: no sum that the action changed in the book is used.
+// Applies the action, and sums the loads afresh: no sum that the action changed in the book is
+// used.
 fn take_step(alloc: Global, case: &Case, book: &mut LoadBook, action: Action) -> Result<(), Memory>
     requires belongs { IsBookOf case.now book.old }
     requires legal { IsTrue (is_legal case.now book.old.lists action) }
@@ -71,8 +72,9 @@ fn take_step(alloc: Global, case: &Case, book: &mut LoadBook, action: Action) ->
     Ok(())
 }
 
-// An action that is left where a turn ends: a legal one that the earlier goals accept and that lessens the goal. The planner's search finds
-// it, since its contract is the definition's: to try each action by itself would take minutes where the plan took a second.
+// An action that is left where a turn ends: a legal one that the earlier goals accept and that
+// lessens the goal. The planner's search finds it, since its contract is the definition's: to try
+// each action by itself would take minutes where the plan took a second.
 fn action_left<G: Goal + Sync, R: Threads + Sync>(
     rt: &R,
     alloc: Global,
@@ -92,7 +94,7 @@ fn action_left<G: Goal + Sync, R: Threads + Sync>(
         (G.meaning goal.now case.now) book.now.lists a)) }
 {
     let order = Order::new(alloc, case, book)?;
-    let mut scan = Scan::new(alloc, case, earlier)?;
+    let mut scan = Scan::new(alloc, case, book, earlier, goal)?;
     next_lessening(rt, alloc, case, book, &order, &mut scan, earlier, goal)
 }
 
@@ -198,9 +200,10 @@ fn judge_turns<R: Threads + Sync>(
     Ok(None)
 }
 
-/// Whether the trace is good for the case, the start and the goals, or its first fault. Turn after turn: the goal, each action
-/// in order, what the turn leaves, and whether it should have been the last; then whether a goal is left and whether the trace
-/// is said to be planned. Each action is judged on loads that are summed afresh from the lists where it stands.
+/// Whether the trace is good for the case, the start and the goals, or its first fault. Turn after
+/// turn: the goal, each action in order, what the turn leaves, and whether it should have been the
+/// last; then whether a goal is left and whether the trace is said to be planned. Each action is
+/// judged on loads that are summed afresh from the lists where it stands.
 pub fn check<R: Threads + Sync>(
     rt: &R,
     alloc: Global,

@@ -5,7 +5,8 @@ ghost use Rattle.plan_check.specs.Names.{fault_name};
 /// What is wrong with a trace at a place.
 #[derive(Clone, Copy, Debug, PartialEq, Eq)]
 pub enum FaultKind {
-    /// The turn isn't that of the goal whose turn it is, there is no such goal, or a goal has no turn.
+    /// The turn isn't that of the goal whose turn it is, there is no such goal, or a goal has no
+    /// turn.
     WrongGoal,
     /// The action isn't legal on the lists where it stands.
     Illegal,
@@ -35,8 +36,8 @@ impl FaultKind {
     }
 }
 
-/// The trace is good, or its first fault: the turn, counted from 0, and the action in it, counted from 0 and as many as it has
-/// for a fault at its end.
+/// The trace is good, or its first fault: the turn, counted from 0, and the action in it, counted
+/// from 0 and as many as it has for a fault at its end.
 #[derive(Clone, Copy, Debug, PartialEq, Eq)]
 pub enum Verdict {
     Good,

@@ -214,8 +214,9 @@ fn trace_in(alloc: Global, value: &Value) -> Result<Trace, TraceFault>
     Ok(Trace { turns, planned })
 }
 
-/// The trace that the bytes are: the JSON object that [`trace_text`](crate::trace_text) writes, with any blanks, with its members in
-/// any order and with any others among them. All else is no trace.
+/// The trace that the bytes are: the JSON object that [`trace_text`](crate::trace_text) writes,
+/// with any blanks, with its members in any order and with any others among them. All else is no
+/// trace.
 pub fn read_trace(alloc: Global, bytes: &[u8]) -> Result<Trace, TraceFault>
     ensures ok { IfOk result (λ trace. trace_of bytes.now ≡ Some (trace_view trace)) }
     ensures err { IfErr result (λ e. e ≡ TraceFault.NotATrace → trace_of bytes.now ≡ None) }

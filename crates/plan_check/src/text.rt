@@ -94,8 +94,9 @@ fn trace_value(alloc: Global, trace: &Trace) -> Result<Value, AllocError>
 }
 
 /// The trace as JSON, on one line, with keys in the order of their bytes and no blanks:
-/// `{"result":R,"turns":[{"actions":[ACTION],"goal":NAME}],"version":1}`, where R is `PLANNED` or `FAILED` and an action is
-/// `["MOVE",p,a,b]`, `["LEAD",p,b]` or `["SWAP",p,a,q,b]`, partitions by their place from 0 and brokers by their id.
+/// `{"result":R,"turns":[{"actions":[ACTION],"goal":NAME}],"version":1}`, where R is `PLANNED` or
+/// `FAILED` and an action is `["MOVE",p,a,b]`, `["LEAD",p,b]` or `["SWAP",p,a,q,b]`, partitions by
+/// their place from 0 and brokers by their id.
 pub fn trace_text(alloc: Global, trace: &Trace) -> Result<Vec<u8>, Memory>
     ensures text { IfOk result (λ text. text.items ≡ trace_text (trace_view trace.now)) }
     ensures reads_back { IfOk result (λ text. trace_of text.items ≡ Some (trace_view trace.now)) }

@@ -35,8 +35,8 @@ fn with_lines(
     Ok(text)
 }
 
-/// The summary of a plan, line by line: `planned`, `proposals` and the number of partitions whose lists it changes, and
-/// for each goal its name with its measures before the plan and after it.
+/// The summary of a plan, line by line: `planned`, `proposals` and the number of partitions whose
+/// lists it changes, and for each goal its name with its measures before the plan and after it.
 ///
 /// `Memory`: there is too little memory for the text.
 #[tactic(auto, unfolding(crate::specs::Summary::plan_summary))]
@@ -57,8 +57,8 @@ pub fn plan_summary(alloc: Global, plan: &Plan) -> Result<Vec<u8>, Memory>
     )
 }
 
-/// The summary of a failure, line by line: `failed` and the goal's name, `proposals 0`, and for each goal that had its
-/// turn its name with its measures before the first turn and after the last.
+/// The summary of a failure, line by line: `failed` and the goal's name, `proposals 0`, and for
+/// each goal that had its turn its name with its measures before the first turn and after the last.
 ///
 /// `Memory`: there is too little memory for the text.
 #[tactic(auto, unfolding(crate::specs::Summary::failure_summary))]

@@ -19,7 +19,8 @@ pub enum Action {
         part: u32,
         to: u32,
     },
-    /// Broker `to` stands in the place of `from` in `part`, and `from` in the place of `to` in `other`.
+    /// Broker `to` stands in the place of `from` in `part`, and `from` in the place of `to` in
+    /// `other`.
     Swap {
         part: u32,
         from: u32,

@@ -51,7 +51,8 @@ pub struct Broker {
     pub id: u32,
     /// `None` is a rack of the broker's own.
     pub rack: Option<RackName>,
-    /// The capacity of each resource, below 2^40. The customary units are percent, KB/s, KB/s and MB.
+    /// The capacity of each resource, below 2^40. The customary units are percent, KB/s, KB/s and
+    /// MB.
     pub cap: Res4,
     pub state: BrokerState,
 }
@@ -90,7 +91,8 @@ pub struct Part {
     /// The number within the topic.
     pub number: u32,
     pub loads: Loads,
-    /// Whether the request leaves the topic out: then only what is on lost or demoted brokers changes.
+    /// Whether the request leaves the topic out: then only what is on lost or demoted brokers
+    /// changes.
     pub excluded: bool,
     /// The work of copying one replica, 1 to 1,000.
     pub chunks: u32,

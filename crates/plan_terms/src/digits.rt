@@ -20,7 +20,8 @@ fn parse(text: &str, most: usize) -> Option<u64>
     text.parse::<u64>().ok()
 }
 
-/// The number that a text of 1 to `most` ASCII digits spells. Leading zeros are good; a sign, a blank or no digit is not.
+/// The number that a text of 1 to `most` ASCII digits spells. Leading zeros are good; a sign, a
+/// blank or no digit is not.
 #[tactic(auto, unfolding(crate::specs::Digits::number_of))]
 pub fn read_digits(text: &str, most: usize) -> Option<u64>
     requires { most ≤ 19 }
@@ -37,8 +38,8 @@ pub fn read_digits(text: &str, most: usize) -> Option<u64>
     }
 }
 
-/// The whole number, below 10^19, that a text writes in ASCII digits without a leading zero: `0` itself is good; a sign, a
-/// blank or no digit is not.
+/// The whole number, below 10^19, that a text writes in ASCII digits without a leading zero: `0`
+/// itself is good; a sign, a blank or no digit is not.
 #[tactic(auto, unfolding(crate::specs::Digits::whole_of))]
 pub fn read_whole(text: &str) -> Option<u64>
     ensures value { result ≡ whole_of text.now }

@@ -9,7 +9,8 @@ ghost use Rattle.plan_terms.specs.Racks.{rack_goal};
 ghost use Rattle.plan_terms.specs.declared.actions.Action.{Action};
 ghost use Rattle.plan_terms.specs.Laws.{EachActionOnce, LegalKeepsLists, NoLegalActionHelps, TurnKeepsEarlier};
 
-/// Where a turn ends with none left, no legal action at all that the earlier goals accept lessens the goal.
+/// Where a turn ends with none left, no legal action at all that the earlier goals accept lessens
+/// the goal.
 pub fn no_legal_action_helps()
     ensures { NoLegalActionHelps }
 {}

@@ -1,5 +1,5 @@
-//! The words of planning: the plain types that the crates above share and, in `specs/`, every definition of planning
-//! that their contracts cite.
+//! The words of planning: the plain types that the crates above share and, in `specs/`, every
+//! definition of planning that their contracts cite.
 #![tactic(auto)]
 
 mod actions;

@@ -55,8 +55,8 @@ impl Ratio {
         self.den
     }
 
-    /// Reads 1 to 4 digits and, where a point follows them, 1 to 3 digits behind it: with k digits there the denominator
-    /// is 10^k. Every other text is `None`.
+    /// Reads 1 to 4 digits and, where a point follows them, 1 to 3 digits behind it: with k digits
+    /// there the denominator is 10^k. Every other text is `None`.
     #[tactic(auto, unfolding(crate::specs::Fraction::ratio_of))]
     pub fn read(text: &str) -> Option<Ratio>
         ensures { result ≡ ratio_of text.now }
@@ -67,8 +67,8 @@ impl Ratio {
         }
     }
 
-    /// How far a load lies above this share of a capacity, times the denominator: `load * den - num * cap`, or 0 where
-    /// that is negative.
+    /// How far a load lies above this share of a capacity, times the denominator:
+    /// `load * den - num * cap`, or 0 where that is negative.
     pub fn over(&self, load: u128, cap: u128) -> u128
         requires load { load < 2 ^ 100 }
         requires cap { cap < 2 ^ 100 }

@@ -1,4 +1,5 @@
-//! Tests of plans: what the planner's search finds beside a plain scan, the checker's verdict, the texts of traces, and summaries.
+//! Tests of plans: what the planner's search finds beside a plain scan, the checker's verdict, the
+//! texts of traces, and summaries.
 #![tactic(auto)]
 
 #[cfg(test)]

@@ -1,5 +1,6 @@
-// Small clusters of all states and loads. On their lists, and on those that the plan for all goals leads to, the planner's search and the
-// plain scan of all legal actions find something for the same goals; and the trace of the plan is good.
+// Small clusters of all states and loads. On their lists, and on those that the plan for all goals
+// leads to, the planner's search and the plain scan of all legal actions find something for the
+// same goals; and the trace of the plan is good.
 ghost use Rattle.std.specs.List.{All};
 ghost use Rattle.candidate_order.specs.Order.{IsOrderOf};
 ghost use Rattle.plan_terms.specs.Belongs.{Belongs, IsBookOf};
@@ -31,7 +32,7 @@ fn expect_same<G: Goal + Sync, R: Threads + Sync + Abort>(
     requires belongs { IsBookOf case.now book.now }
     requires order { IsOrderOf case.now book.now.lists order.now }
 {
-    let mut scan = Scan::new(alloc, case, earlier).expect(rt, "memory");
+    let mut scan = Scan::new(alloc, case, book, earlier, goal).expect(rt, "memory");
     let found = next_lessening(rt, alloc, case, book, order, &mut scan, earlier, goal);
     let found = found.expect(rt, "memory").is_some();
     let plain = plain_next(alloc, case, book, earlier, goal);

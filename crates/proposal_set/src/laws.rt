@@ -9,10 +9,12 @@ pub fn texts_on_literals()
     ensures one { reassignment_text (one_part ∷ []) (one_proposal ∷ [])
         ≡ codes
         "{\"partitions\":[{\"partition\":0,\"replicas\":[2,1],\"topic\":\"t\"}],\"version\":1}" }
-    ensures none { reassignment_text (one_part ∷ []) [] ≡ codes "{\"partitions\":[],\"version\":1}" }
+    ensures none { reassignment_text (one_part ∷ []) []
+        ≡ codes "{\"partitions\":[],\"version\":1}" }
 {}
 
-/// The proposals between two assignments, carried out one after another on the first, give the second.
+/// The proposals between two assignments, carried out one after another on the first, give the
+/// second.
 pub fn proposals_lead_from_before_to_after()
     ensures { ProposalsLead }
 {}

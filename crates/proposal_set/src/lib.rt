@@ -1,4 +1,5 @@
-//! What a plan asks for: the proposals between two assignments, and the reassignment JSON that Kafka's tools read.
+//! What a plan asks for: the proposals between two assignments, and the reassignment JSON that
+//! Kafka's tools read.
 #![tactic(auto)]
 
 mod changes;

@@ -53,15 +53,17 @@ fn reassignment_value(alloc: Global, entries: Vec<Value>) -> Result<Value, Alloc
     json!(in alloc; {"partitions": (Value::Array(entries)), "version": 1u64})
 }
 
-/// The reassignment JSON that asks for the proposals' new lists, as `kafka-reassign-partitions
-/// --reassignment-json-file` reads it. Keys stand in the order of their bytes, with no white space between.
+/// The reassignment JSON that asks for the proposals' new lists, as
+/// `kafka-reassign-partitions --reassignment-json-file` reads it. Keys stand in the order of their bytes, with no white space
+/// between.
 pub fn reassignment_text(
     alloc: Global,
     case: &Case,
     proposals: &[Proposal],
 ) -> Result<Vec<u8>, Memory>
     requires { All (λ p. p.part < length case.now.parts) proposals.now }
-    ensures text { IfOk result (λ text. text.items ≡ reassignment_text case.now.parts proposals.now) }
+    ensures text { IfOk result (λ text. text.items
+        ≡ reassignment_text case.now.parts proposals.now) }
     ensures reads { IfOk result
         (λ text. read text.items
         ≡ Some (reassignment (proposal_entries case.now.parts proposals.now))) }
@@ -71,7 +73,8 @@ pub fn reassignment_text(
     Ok(value.to_vec(alloc)?)
 }
 
-/// The reassignment JSON of all lists, in the order of the partitions. It has the form of `reassignment_text`.
+/// The reassignment JSON of all lists, in the order of the partitions. It has the form of
+/// `reassignment_text`.
 pub fn assignment_text(alloc: Global, case: &Case, lists: &[Replicas]) -> Result<Vec<u8>, Memory>
     requires { length lists.now ≡ length case.now.parts }
     ensures text { IfOk result (λ text. text.items ≡ assignment_text case.now.parts lists.now) }

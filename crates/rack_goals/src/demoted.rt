@@ -11,8 +11,8 @@ use partition_goals::{ListRule, PartitionGoal};
 #[derive(Clone, Copy)]
 pub struct DemotionRule;
 
-/// The goal that no broker leads that is not to, which is soft. A partition's excess is 1 where its first member is on a
-/// demoted broker. It is what Cruise Control asks when it demotes brokers.
+/// The goal that no broker leads that is not to, which is soft. A partition's excess is 1 where its
+/// first member is on a demoted broker. It is what Cruise Control asks when it demotes brokers.
 pub type DemotionGoal = PartitionGoal<DemotionRule>;
 
 impl ListRule for DemotionRule {

@@ -1,5 +1,5 @@
-//! Goals with one unit for each partition: its members stand on distinct racks and on no lost broker, and it isn't led from
-//! a demoted one.
+//! Goals with one unit for each partition: its members stand on distinct racks and on no lost
+//! broker, and it isn't led from a demoted one.
 #![tactic(auto)]
 
 ghost use Rattle.goal_terms.specs.Partitions.{demotion_goal, evacuation_goal};

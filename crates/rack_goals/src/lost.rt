@@ -11,8 +11,8 @@ use partition_goals::{ListRule, PartitionGoal};
 #[derive(Clone, Copy)]
 pub struct EvacuationRule;
 
-/// The goal that no replica stands on a lost broker, which is hard. A partition's excess is its members on lost brokers.
-/// It is what Cruise Control asks when it removes or heals brokers.
+/// The goal that no replica stands on a lost broker, which is hard. A partition's excess is its
+/// members on lost brokers. It is what Cruise Control asks when it removes or heals brokers.
 pub type EvacuationGoal = PartitionGoal<EvacuationRule>;
 
 impl ListRule for EvacuationRule {

@@ -8,12 +8,13 @@ use load_model::Case;
 use partition_goals::{ListRule, PartitionGoal};
 use plan_terms::RackName;
 
-/// The rule that the members of a list stand on distinct racks. A broker without a rack is a rack of its own.
+/// The rule that the members of a list stand on distinct racks. A broker without a rack is a rack
+/// of its own.
 #[derive(Clone, Copy)]
 pub struct RackRule;
 
-/// The goal that the replicas of each partition stand on distinct racks, which is hard: Cruise Control's
-/// RackAwareGoal. A partition's excess is its members minus their distinct racks.
+/// The goal that the replicas of each partition stand on distinct racks, which is hard: Cruise
+/// Control's RackAwareGoal. A partition's excess is its members minus their distinct racks.
 pub type RackAwareGoal = PartitionGoal<RackRule>;
 
 fn rack_at(case: &Case, id: u32) -> Option<&RackName>

@@ -1,4 +1,5 @@
-//! One request for a plan, carried out by the owner of a book: asked, drained on one thread, and asked after.
+//! One request for a plan, carried out by the owner of a book: asked, drained on one thread, and
+//! asked after.
 #![tactic(auto)]
 
 mod lists;

@@ -7,7 +7,8 @@ use load_model::Assign;
 use plan_terms::{Memory, Replicas};
 use std::alloc::Global;
 
-/// A copy of the lists that a cluster in memory has for so many partitions, which are all of its own.
+/// A copy of the lists that a cluster in memory has for so many partitions, which are all of its
+/// own.
 pub fn lists_told(alloc: Global, cluster: &MemoryCluster, parts: usize) -> Result<Assign, Memory>
     requires parts { parts ≡ ⟦<MemoryCluster as Admin>⟧.parts cluster.now }
     requires lists { IfSome (⟦<MemoryCluster as Admin>⟧.told cluster.now) IsAssignment }

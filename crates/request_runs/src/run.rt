@@ -31,8 +31,8 @@ pub struct RequestRun {
     pub broken: Option<Broken>,
 }
 
-// A book of the file's cluster in memory, of which the request was asked first, and the request's id. How many partitions have loads
-// is not tested.
+// A book of the file's cluster in memory, of which the request was asked first, and the request's
+// id. How many partitions have loads is not tested.
 fn begin(
     alloc: Global,
     mut file: ClusterFile,
@@ -103,8 +103,9 @@ fn broken_of(reply: Reply) -> Option<Option<Broken>>
     }
 }
 
-/// Carries out a request for a plan over the file's cluster in memory: opens a book, asks the request, makes rounds until nothing is
-/// unfinished, and asks what came of it. How many partitions have loads is not tested.
+/// Carries out a request for a plan over the file's cluster in memory: opens a book, asks the
+/// request, makes rounds until nothing is unfinished, and asks what came of it. How many partitions
+/// have loads is not tested.
 ///
 /// # Errors
 ///

@@ -64,12 +64,14 @@ pub enum Call {
     Stop(bool),
     /// The death of the broker of this id.
     Kill(u32),
-    /// A sample of a partition's loads: its topic, its number below 2^31, the time in milliseconds below 2^53, the loads.
+    /// A sample of a partition's loads: its topic, its number below 2^31, the time in milliseconds
+    /// below 2^53, the loads.
     Sample(Topic, u32, u64, Measured),
     Show(Query),
     /// Rounds of work, 1 to 100,000.
     Pump(u32),
-    /// Other caps of movements, each 1 to 10,000: of one broker, of the cluster, of leaders alone. An absent one stays.
+    /// Other caps of movements, each 1 to 10,000: of one broker, of the cluster, of leaders alone.
+    /// An absent one stays.
     Caps(Option<u32>, Option<u32>, Option<u32>),
 }
 
@@ -82,8 +84,8 @@ pub enum HttpFault {
     /// What has this path isn't asked by this method.
     #[error("method not allowed")]
     WrongMethod,
-    /// The parameter is unknown to the endpoint, repeated, of another form, or absent where it has to be there; or a plan's
-    /// key is no UUID, with the name `User-Task-ID`.
+    /// The parameter is unknown to the endpoint, repeated, of another form, or absent where it has
+    /// to be there; or a plan's key is no UUID, with the name `User-Task-ID`.
     #[error("bad parameter")]
     BadParameter(ParameterName),
     /// The body is no sample.
@@ -359,8 +361,9 @@ fn is_method(endpoint: Endpoint, method: &[u8]) -> bool
 }
 
 impl Routes {
-    /// The call that a request means, or its first fault: the path, the method, the parameters in the order in which they
-    /// stand, a parameter that is missing, and last a plan's key or a sample's body.
+    /// The call that a request means, or its first fault: the path, the method, the parameters in
+    /// the order in which they stand, a parameter that is missing, and last a plan's key or a
+    /// sample's body.
     #[tactic(auto, unfolding(crate::specs::Calls::meaning))]
     pub fn request_of(&self, alloc: Global, raw: &RawRequest) -> Result<Call, HttpFault>
         ensures is { UnlessMemory result (meaning raw.now) }

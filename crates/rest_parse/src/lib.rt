@@ -1,5 +1,5 @@
-//! What a request means: the endpoint that its path names, the parameters of its query, and the call that it makes; or its
-//! first fault.
+//! What a request means: the endpoint that its path names, the parameters of its query, and the
+//! call that it makes; or its first fault.
 #![tactic(auto)]
 
 mod calls;

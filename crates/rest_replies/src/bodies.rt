@@ -68,9 +68,12 @@ pub fn done_value(
     let id = id_text(alloc, id)?;
     let id = id.as_str();
     let status = task_status_text(status);
-    Ok(
-        json!(in alloc; {"proposals": proposals, "status": status, "userTaskId": id, "version": 1u64})?,
-    )
+    Ok(json!(in alloc; {
+        "proposals": proposals,
+        "status": status,
+        "userTaskId": id,
+        "version": 1u64
+    })?)
 }
 
 /// A user task that a goal failed, with what of it stays broken.
@@ -89,9 +92,13 @@ pub fn failed_value(
     let id = id_text(alloc, id)?;
     let id = id.as_str();
     let status = task_status_text(status);
-    Ok(
-        json!(in alloc; {"failed": name, "measure": measure, "status": status, "userTaskId": id, "version": 1u64})?,
-    )
+    Ok(json!(in alloc; {
+        "failed": name,
+        "measure": measure,
+        "status": status,
+        "userTaskId": id,
+        "version": 1u64
+    })?)
 }
 
 /// A user task whose execution ended with tasks that were aborted or are dead.
@@ -122,9 +129,11 @@ pub fn ended_value(
 pub fn stopped_value(alloc: Global, stopped: &Stopped) -> Result<Value, Memory>
     ensures { IfOk result (λ v. view v ≡ stopped_data stopped.now) }
 {
-    Ok(
-        json!(in alloc; {"aborted": (stopped.aborted), "aborting": (stopped.aborting), "version": 1u64})?,
-    )
+    Ok(json!(in alloc; {
+        "aborted": (stopped.aborted),
+        "aborting": (stopped.aborting),
+        "version": 1u64
+    })?)
 }
 
 /// The death of a broker.
@@ -145,9 +154,12 @@ pub fn sampled_value(alloc: Global) -> Result<Value, Memory>
 pub fn caps_value(alloc: Global, caps: &Caps) -> Result<Value, Memory>
     ensures { IfOk result (λ v. view v ≡ caps_data caps.now) }
 {
-    Ok(
-        json!(in alloc; {"broker": (caps.broker), "cluster": (caps.cluster), "leader": (caps.leader), "version": 1u64})?,
-    )
+    Ok(json!(in alloc; {
+        "broker": (caps.broker),
+        "cluster": (caps.cluster),
+        "leader": (caps.leader),
+        "version": 1u64
+    })?)
 }
 
 /// The end of a pump.

@@ -8,7 +8,8 @@ ghost use Rattle.rest_replies.specs.declared.told.Told.TheVariants as told;
 
 use crate::replies::MEMORY_REPLY;
 
-/// The reply where memory ran out is the one that tells so, wherever it ran out: in the book, in a pump, or on the request's way.
+/// The reply where memory ran out is the one that tells so, wherever it ran out: in the book, in a
+/// pump, or on the request's way.
 pub fn memory_reply_is_a_reply()
     ensures step { MEMORY_REPLY.now ≡ reply_of (told.Step step.Memory) }
     ensures pump { MEMORY_REPLY.now ≡ reply_of (told.Pump pump.Memory) }

@@ -1,4 +1,5 @@
-//! The bytes of the replies over HTTP: a status line and a head by RFC 9112, and a body of compact JSON.
+//! The bytes of the replies over HTTP: a status line and a head by RFC 9112, and a body of compact
+//! JSON.
 #![tactic(auto)]
 
 mod answer;

@@ -76,7 +76,8 @@ fn told_by<X: Asker, K: Copier, R: Threads + Sync>(
     }
 }
 
-/// Writes the reply to what is told. Where there is no memory for it, the reply that says so takes none.
+/// Writes the reply to what is told. Where there is no memory for it, the reply that says so takes
+/// none.
 pub fn write_reply<L: Link>(alloc: Global, link: &mut L, told: &Told) -> Result<(), WriteFault>
     ensures replied { IsReplied told.now (L.written link.old) (L.written link.new) result }
     ensures cause { HasCause (L.Sink.faults link.old) (L.Sink.faults link.new) result }

@@ -1,4 +1,5 @@
-//! A session: the requests of a link, read one after another, each answered by the reply to its own entries.
+//! A session: the requests of a link, read one after another, each answered by the reply to its own
+//! entries.
 #![tactic(auto)]
 
 mod answer;

@@ -102,7 +102,8 @@ fn serve_with<X: Asker, K: Copier, L: Link, R: Threads + Sync>(
     }
 }
 
-/// Answers the requests of a link in their order, each by the reply to its own entries, until the link ends.
+/// Answers the requests of a link in their order, each by the reply to its own entries, until the
+/// link ends.
 pub fn serve<X: Asker, K: Copier, L: Link, R: Threads + Sync>(
     rt: &R,
     alloc: Global,

@@ -44,7 +44,8 @@ fn close<A: Admin>(book: &mut Book<A>)
     }
 }
 
-/// Makes rounds until no task and no job is unfinished. A book with a lease or a ticket out is left as it is, as one without memory.
+/// Makes rounds until no task and no job is unfinished. A book with a lease or a ticket out is left
+/// as it is, as one without memory.
 pub fn finish<A: Admin, K: Copier, R: Threads + Sync>(
     rt: &R,
     alloc: Global,
@@ -64,8 +65,8 @@ pub fn finish<A: Admin, K: Copier, R: Threads + Sync>(
     }
 }
 
-/// Answers the requests of a link over a book that was just opened, then asks Close, then makes rounds until no task and no job is
-/// unfinished.
+/// Answers the requests of a link over a book that was just opened, then asks Close, then makes
+/// rounds until no task and no job is unfinished.
 pub fn run_session<A: Admin, K: Copier, L: Link, R: Threads + Sync>(
     rt: &R,
     alloc: Global,
@@ -74,12 +75,16 @@ pub fn run_session<A: Admin, K: Copier, L: Link, R: Threads + Sync>(
     link: &mut L,
 ) -> SessionEnd
     requires { book.old.journal ≡ [] }
+    // What was done: a session, a Close, a drain.
     ensures since { IsSince A.faults book.old book.new }
     ensures session { IsSession book.old book.new (copier_of K.copies K.faults copier.old)
         (copier_of K.copies K.faults copier.new) (L.left link.old) (L.written link.old)
         (L.written link.new) result }
+    // How the drain ended.
     ensures drained { result.drain ≡ DrainEnd.Drained → IsDone (state_of book.new).desk }
-    ensures fault { (number : ℕ) → result.drain ≡ DrainEnd.AdminFault number → 1 ≤ book.new.failures }
+    ensures fault { (number : ℕ) → result.drain ≡ DrainEnd.AdminFault number
+        → 1 ≤ book.new.failures }
+    // Counts never fall, and a fault of the link comes from one that rose.
     ensures source { L.Source.faults link.old ≤ L.Source.faults link.new }
     ensures sink { L.Sink.faults link.old ≤ L.Sink.faults link.new }
     ensures read_fault { result.link ≡ LinkEnd.ReadFault

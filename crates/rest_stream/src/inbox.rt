@@ -33,13 +33,16 @@ impl Inbox {
 
 // Reads once, and adds what came. Answers how many bytes: 0 at the end of the input.
 pub fn fill<S: Source>(inbox: &mut Inbox, source: &mut S) -> Result<usize, Stop>
+    // What is held and what is left are the same stream.
     ensures stream { OnOk result
         (stream_of inbox.new.held.items (S.left source.new)
         ≡ stream_of inbox.old.held.items (S.left source.old)) }
+    // What came is held. Nothing comes only at the end.
     ensures longer { IfOk result
         (λ n. length inbox.new.held.items ≡ length inbox.old.held.items + n) }
     ensures same { result ≡ Ok 0 → inbox.new.held.items ≡ inbox.old.held.items }
     ensures end { result ≡ Ok 0 → IfSome (S.left source.old) (λ told. told ≡ []) }
+    // It stops for the source or for memory.
     ensures cause { HasReadCause (S.faults source.old) (S.faults source.new) result }
     ensures why { IfErr result IsOutside }
     ensures beside { S.beside source.new ≡ S.beside source.old }
@@ -53,7 +56,8 @@ pub fn fill<S: Source>(inbox: &mut Inbox, source: &mut S) -> Result<usize, Stop>
     }
 }
 
-// Hands out the first bytes, as many as a head and the body behind it have, and keeps the others. The body isn't copied.
+// Hands out the first bytes, as many as a head and the body behind it have, and keeps the others.
+// The body isn't copied.
 pub fn take_front(
     alloc: Global,
     held: &mut Vec<u8>,

@@ -1,4 +1,5 @@
-//! The requests of a stream of bytes: what they are, and a reader that gives them however the reads cut the stream.
+//! The requests of a stream of bytes: what they are, and a reader that gives them however the reads
+//! cut the stream.
 #![tactic(auto)]
 
 mod bytes;

@@ -15,7 +15,8 @@ pub struct RawRequest {
     pub target: Bytes,
     /// The value of the first field `User-Task-ID`.
     pub key: Option<Bytes>,
-    /// Whether the link ends behind it: it is of HTTP/1.0, a `Connection` field has the value `close`, or it is the 2^48-th.
+    /// Whether the link ends behind it: it is of HTTP/1.0, a `Connection` field has the value
+    /// `close`, or it is the 2^48-th.
     pub closes: bool,
     /// As many bytes as `Content-Length` says, at most 1,048,576; none without that field.
     pub body: Bytes,

@@ -21,11 +21,12 @@ const ROOM: usize = 5462;
 // The 2^48-th request of a stream closes it.
 const MOST: u64 = 1 << 48;
 
-/// Reads the requests of a stream, one after the other (RFC 9112): a head of at most 16,384 bytes and 64 fields, and as many
-/// bytes behind it as its `Content-Length` says.
+/// Reads the requests of a stream, one after the other (RFC 9112): a head of at most 16,384 bytes
+/// and 64 fields, and as many bytes behind it as its `Content-Length` says.
 ///
-/// How the reads cut the stream makes no difference. A request is given as soon as its last byte came. A head that can't be
-/// mended is found at an empty line, where as many bytes came as had at the last look, at 16,384 bytes, or at the input's end.
+/// How the reads cut the stream makes no difference. A request is given as soon as its last byte
+/// came. A head that can't be mended is found at an empty line, where as many bytes came as had at
+/// the last look, at 16,384 bytes, or at the input's end.
 #[derive(Drop)]
 pub struct Reader {
     inbox: Inbox,
@@ -58,7 +59,8 @@ impl Reader {
         })
     }
 
-    /// The next request, or why there is none. What follows that answer is the same answer, and reads nothing.
+    /// The next request, or why there is none. What follows that answer is the same answer, and
+    /// reads nothing.
     pub fn next<S: Source>(&mut self, alloc: Global, source: &mut S) -> Next
         // an open reader: the stream begins with the request, or that is why it has none
         ensures request { IsNone self.old.ended

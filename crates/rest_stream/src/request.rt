@@ -79,14 +79,17 @@ fn framed_head<S: Source>(
     source: &mut S,
 ) -> Result<Framed, Stop>
     requires room { 5462 ≤ length headers.old }
+    // The first head of the stream is framed so.
     ensures framed { IfOk result
         (λ f. IfSome (stream_of inbox.old.held.items (S.left source.old))
         (λ stream. IsFramed stream f)) }
     ensures len { IfOk result (λ f. f.len ≤ 16384) }
     ensures size { IfOk result (λ f. f.size ≤ 1048576) }
+    // Nothing is used up.
     ensures stream { OnOk result
         (stream_of inbox.new.held.items (S.left source.new)
         ≡ stream_of inbox.old.held.items (S.left source.old)) }
+    // Or the stream stops here, for that reason.
     ensures why { IfErr result
         (λ e. IfSome (stream_of inbox.old.held.items (S.left source.old))
         (λ stream. StopsBy stream e)) }
@@ -140,15 +143,18 @@ fn take_body<S: Source>(
 ) -> Result<Bytes, Stop>
     requires len { len ≤ 16384 }
     requires size { size ≤ 1048576 }
+    // The body is what stands behind the head.
     ensures enough { IfOk result
         (λ body. IfSome (stream_of inbox.old.held.items (S.left source.old))
         (λ stream. len + size ≤ length stream)) }
     ensures body { IfOk result
         (λ body. IfSome (stream_of inbox.old.held.items (S.left source.old))
         (λ stream. body ≡ take size (drop len stream))) }
+    // Both are used up.
     ensures stream { OnOk result
         (stream_of inbox.new.held.items (S.left source.new)
         ≡ after (len + size) (stream_of inbox.old.held.items (S.left source.old))) }
+    // Or the stream is cut, or the source or memory failed.
     ensures cut { result ≡ Err stop.Truncated
         → IfSome (stream_of inbox.old.held.items (S.left source.old))
         (λ stream. length stream < len + size) }

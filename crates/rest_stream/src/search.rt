@@ -83,8 +83,9 @@ fn may_end(held: &[u8], seen: usize) -> bool {
     false
 }
 
-// Whether it is time to look for a head: one may end among the bytes from `seen` on, as many bytes came as had at the last
-// look, or no more bytes may come. A head takes few looks by this, however its bytes come.
+// Whether it is time to look for a head: one may end among the bytes from `seen` on, as many bytes
+// came as had at the last look, or no more bytes may come. A head takes few looks by this, however
+// its bytes come.
 fn is_due(held: &[u8], seen: usize, looked: usize) -> bool
     ensures { 16384 ≤ length held.now → IsTrue result }
 {
@@ -100,12 +101,16 @@ fn look_or_read<S: Source>(
 ) -> Result<Option<RequestSpans>, Stop>
     requires room { 5462 ≤ length headers.old }
     requires due { 16384 ≤ length inbox.old.held.items → IsTrue is_due }
+    // A head that was found stands in front.
     ensures found { IfOk result (λ o. IfSome o (IsFound inbox.new.held.items headers.new)) }
+    // Nothing is used up.
     ensures stream { OnOk result
         (stream_of inbox.new.held.items (S.left source.new)
         ≡ stream_of inbox.old.held.items (S.left source.old)) }
+    // Without one, more is held than before.
     ensures short { result ≡ Ok None → length inbox.old.held.items < 16384 }
     ensures longer { result ≡ Ok None → length inbox.old.held.items < length inbox.new.held.items }
+    // Or the stream stops here, for that reason.
     ensures why { IfErr result
         (λ e. IfSome (stream_of inbox.old.held.items (S.left source.old))
         (λ stream. StopsBy stream e)) }

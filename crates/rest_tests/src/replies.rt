@@ -1,5 +1,5 @@
-// Replies byte for byte. Where memory is wanting the test panics, in place of `?`, so that no row is let go there: the proof of each drop is
-// long.
+// Replies byte for byte. Where memory is wanting the test panics, in place of `?`, so that no row
+// is let go there: the proof of each drop is long.
 use core_terms::{
     BrokerShown, ExecutorState, Named, Outcome, PartShown, PumpEnd, Reason, Reply, Shown,
     StateShown, StepFault, TaskShown,

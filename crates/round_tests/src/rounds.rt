@@ -1,5 +1,6 @@
-// Pumps and drains of a book, whose admin and copier fail where a row says so. Where a call fails the test panics, in place of `?`, so that
-// a book is dropped at one place alone: the proof of each drop is long.
+// Pumps and drains of a book, whose admin and copier fail where a row says so. Where a call fails
+// the test panics, in place of `?`, so that a book is dropped at one place alone: the proof of each
+// drop is long.
 use cluster_gate::{FailingAdmin, FailingCopier, MemoryCluster, MemoryCopier};
 use control_core::Book;
 use core_terms::{Event, Reply};
@@ -85,7 +86,8 @@ impl Run {
     }
 }
 
-// A run: the calls of the admin and of the copier that fail, the steps with their ends, the list and the entries in the end.
+// A run: the calls of the admin and of the copier that fail, the steps with their ends, the list
+// and the entries in the end.
 struct Row {
     admin: &'static [u64],
     copier: &'static [u64],

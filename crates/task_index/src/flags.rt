@@ -8,8 +8,8 @@ use plan_terms::Memory;
 use std::alloc::Global;
 use std::marker::Model;
 
-/// Flags by their places. The first that is up is found, and one is put up or down, in a number of steps that is the logarithm
-/// of how many there are. Only `new` takes memory.
+/// Flags by their places. The first that is up is found, and one is put up or down, in a number of
+/// steps that is the logarithm of how many there are. Only `new` takes memory.
 #[derive(Drop)]
 pub struct FlagTree {
     // the flags, and above them level by level whether one of two below is up, to a single one
@@ -83,7 +83,8 @@ fn put_flag(levels: &mut Vec<Level>, place: usize, flag: bool)
     requires levels { AreLevels levels.old.items }
     requires known { place < length (level_at levels.old.items 0) }
     ensures levels { AreLevels levels.new.items }
-    ensures flags { level_at levels.new.items 0 ≡ slice_set (level_at levels.old.items 0) place flag }
+    ensures flags { level_at levels.new.items 0
+        ≡ slice_set (level_at levels.old.items 0) place flag }
 {
     levels[0].put(place, flag);
     let mut at = place;

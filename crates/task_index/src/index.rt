@@ -11,7 +11,8 @@ use plan_terms::Memory;
 use std::alloc::Global;
 use std::marker::Model;
 
-/// Finds the first task that wants its cancel, the first that may go on, and the one that has a lease. Only `new` takes memory.
+/// Finds the first task that wants its cancel, the first that may go on, and the one that has a
+/// lease. Only `new` takes memory.
 #[derive(Drop)]
 pub struct TaskIndex {
     to_cancel: FlagTree,
@@ -24,7 +25,11 @@ impl Model for TaskIndex {
 
     ghost Value = { Marks };
 
-    ghost view = { λ x. record { to_cancel = x.to_cancel; to_go_on = x.to_go_on; leases = x.leases } };
+    ghost view = { λ x. record {
+      to_cancel = x.to_cancel;
+      to_go_on = x.to_go_on;
+      leases = x.leases;
+    } };
 
     ghost invariant = { λ x. AreBeside x.to_cancel x.to_go_on x.leases };
 }
@@ -63,7 +68,8 @@ impl TaskIndex {
         self.leases.holder(number)
     }
 
-    /// Takes note of what the task at a place is now. A lease that it has got has a number above all that are out.
+    /// Takes note of what the task at a place is now. A lease that it has got has a number above
+    /// all that are out.
     pub fn note(&mut self, place: usize, task: &Task)
         requires known { place < length self.old.leases }
         requires next { (n : ℕ) → number_in task.now ≡ Some n → IsNext self.old.leases place n }

@@ -7,8 +7,9 @@ use plan_terms::Memory;
 use std::alloc::Global;
 use std::marker::Model;
 
-/// The number of each task's lease, where it has one. Numbers are given in rising order. The task that has a lease is found by
-/// bisection of the leases that are out; the end of one moves those with higher numbers down. Only `new` takes memory.
+/// The number of each task's lease, where it has one. Numbers are given in rising order. The task
+/// that has a lease is found by bisection of the leases that are out; the end of one moves those
+/// with higher numbers down. Only `new` takes memory.
 #[derive(Drop)]
 pub struct LeaseTable {
     // by task

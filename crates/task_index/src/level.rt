@@ -59,7 +59,8 @@ impl Level {
     /// The first of the two, or the second where the first is down.
     pub fn first_of_pair(&self, place: usize) -> usize
         requires { place < 2 ^ 32 }
-        ensures { result ≡ (if get_or self.now (2 * place) false then 2 * place else 2 * place + 1) }
+        ensures { result
+            ≡ (if get_or self.now (2 * place) false then 2 * place else 2 * place + 1) }
     {
         if self.flag(2 * place) {
             2 * place

@@ -35,7 +35,8 @@ impl Key {
         }
     }
 
-    /// Whether the caps may leave room for a task with this key, given whether a task may change a leader alone.
+    /// Whether the caps may leave room for a task with this key, given whether a task may change a
+    /// leader alone.
     pub fn is_open(self, caps: &Caps, counts: &Counts, may_lead: bool) -> bool
         ensures { result ≡ is_open caps.now counts.now may_lead self }
     {
@@ -102,7 +103,8 @@ impl Group {
         Ok(())
     }
 
-    /// The first task that waits and fits, if it comes before the best one that is known, else that one.
+    /// The first task that waits and fits, if it comes before the best one that is known, else that
+    /// one.
     pub fn first_fitting(
         &self,
         slots: &[Slot],

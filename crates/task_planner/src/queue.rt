@@ -14,8 +14,9 @@ use std::marker::Model;
 
 /// The tasks of an execution, and which of them wait. A task's number is its place.
 ///
-/// The tasks that move replicas are in groups by the first broker that they remove, or where they remove none by the first that
-/// they add; those that change a leader alone are one group. Each group is in order of the tasks.
+/// The tasks that move replicas are in groups by the first broker that they remove, or where they
+/// remove none by the first that they add; those that change a leader alone are one group. Each
+/// group is in order of the tasks.
 #[derive(Drop)]
 pub struct TaskQueue {
     slots: Vec<Slot>,
@@ -39,7 +40,8 @@ impl Model for TaskQueue {
 }
 
 impl TaskQueue {
-    /// A task that waits for each proposal. The proposals are of lists of distinct members, all among the brokers.
+    /// A task that waits for each proposal. The proposals are of lists of distinct members, all
+    /// among the brokers.
     pub fn new(alloc: Global, _brokers: &[u32], proposals: &[Proposal]) -> Result<TaskQueue, Memory>
         requires few { length proposals.now < 2 ^ 32 }
         requires brokers { IsTrue (distinct _brokers.now) }
@@ -65,8 +67,8 @@ impl TaskQueue {
         self.waiting > 0
     }
 
-    /// The first task that waits and fits. One that changes a leader alone fits only where no task that moves replicas is in
-    /// flight or waits.
+    /// The first task that waits and fits. One that changes a leader alone fits only where no task
+    /// that moves replicas is in flight or waits.
     pub fn first_fitting(&self, caps: &Caps, counts: &Counts) -> Option<u32>
         ensures { result ≡ first_fitting caps.now counts.now self.now }
     {
@@ -106,8 +108,8 @@ impl TaskQueue {
     }
 }
 
-// The least task that fits, or the number of tasks where none does. A group for which the caps leave no room is passed over, and
-// one whose head comes after the best task so far is not entered.
+// The least task that fits, or the number of tasks where none does. A group for which the caps
+// leave no room is passed over, and one whose head comes after the best task so far is not entered.
 fn first_of(slots: &[Slot], groups: &[Group], caps: &Caps, counts: &Counts, may_lead: bool) -> usize
     requires each { (g : ℕ) → IsGroup slots.now (group_at groups.now g) }
     ensures within { result ≤ length slots.now }

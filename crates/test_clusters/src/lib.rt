@@ -16,7 +16,8 @@ pub fn cluster(alloc: Global, text: &str) -> Option<ClusterFile>
     read_cluster(alloc, text.as_bytes()).ok()
 }
 
-/// These replica lists, one for each partition of the case. `None` where they are no lists of it, or for want of memory.
+/// These replica lists, one for each partition of the case. `None` where they are no lists of it,
+/// or for want of memory.
 pub fn assignment(alloc: Global, case: &Case, lists: &[&[u32]]) -> Option<Assign>
     ensures { IfSome result (λ made. Belongs case.now made) }
 {

@@ -1,5 +1,5 @@
-//! Copiers, sources, sinks and links that wait for one another, so that a test can show that two things ran at once.
-//! No contract speaks of the waiting: tests alone show it.
+//! Copiers, sources, sinks and links that wait for one another, so that a test can show that two
+//! things ran at once. No contract speaks of the waiting: tests alone show it.
 #![tactic(auto)]
 
 mod bar;

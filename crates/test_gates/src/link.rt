@@ -5,7 +5,8 @@ use crate::sink::GateSink;
 use crate::source::GateSource;
 use cc_base::{Failed, Link, Sink, Source};
 
-/// A link in memory. It gives its last bytes only once the link that was made with it has taken a byte.
+/// A link in memory. It gives its last bytes only once the link that was made with it has taken a
+/// byte.
 #[derive(Drop)]
 pub struct GateLink {
     source: GateSource,

@@ -39,9 +39,9 @@ fn barred(alloc: Global, first: &[u8], last: &[u8], bar: Bar) -> Result<GateSour
 }
 
 impl ReplyGate {
-    /// A copier, and the two sides of a connection. The first copy waits until the sink has taken the bytes of so many
-    /// replies, each of which is written by one call. The source gives the bytes of `last`, and the end, only once that copy
-    /// has begun.
+    /// A copier, and the two sides of a connection. The first copy waits until the sink has taken
+    /// the bytes of so many replies, each of which is written by one call. The source gives the
+    /// bytes of `last`, and the end, only once that copy has begun.
     ///
     /// # Errors
     ///
@@ -113,8 +113,8 @@ impl ReplyGate {
         }
     }
 
-    /// Two links, each of which gives the bytes of `first`, and those of `last` and the end only once the other has taken a
-    /// byte.
+    /// Two links, each of which gives the bytes of `first`, and those of `last` and the end only
+    /// once the other has taken a byte.
     ///
     /// # Errors
     ///
@@ -122,7 +122,8 @@ impl ReplyGate {
     pub fn links(alloc: Global, first: &[u8], last: &[u8]) -> Result<(GateLink, GateLink), Memory>
         ensures one_left { IfOk result
             (λ links. ⟦<GateLink as Source>⟧.left links.0 ≡ Some (first.now ++ last.now)) }
-        ensures one_written { IfOk result (λ links. ⟦<GateLink as Sink>⟧.written links.0 ≡ Some []) }
+        ensures one_written { IfOk result
+            (λ links. ⟦<GateLink as Sink>⟧.written links.0 ≡ Some []) }
         ensures one_faults { IfOk result
             (λ links. ⟦<GateLink as Source>⟧.faults links.0 + ⟦<GateLink as Sink>⟧.faults links.0
             ≡ 0) }
@@ -146,7 +147,8 @@ impl ReplyGate {
     ) -> Result<(GateLink, GateLink), Memory>
         ensures one_left { IfOk result
             (λ links. ⟦<GateLink as Source>⟧.left links.0 ≡ Some (first.now ++ last.now)) }
-        ensures one_written { IfOk result (λ links. ⟦<GateLink as Sink>⟧.written links.0 ≡ Some []) }
+        ensures one_written { IfOk result
+            (λ links. ⟦<GateLink as Sink>⟧.written links.0 ≡ Some []) }
         ensures one_faults { IfOk result
             (λ links. ⟦<GateLink as Source>⟧.faults links.0 + ⟦<GateLink as Sink>⟧.faults links.0
             ≡ 0) }

@@ -4,7 +4,8 @@ ghost use Rattle.std.specs.Prelude.{◌≡◌, ◌<◌, ◌≤◌, ◌++◌, Non
 use crate::bar::Bar;
 use cc_base::{Failed, Source};
 
-/// Bytes to read, of which the last come only once what they wait for has happened. So does their end.
+/// Bytes to read, of which the last come only once what they wait for has happened. So does their
+/// end.
 #[derive(Drop)]
 pub struct GateSource {
     bytes: Vec<u8>,

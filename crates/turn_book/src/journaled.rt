@@ -22,7 +22,8 @@ pub trait Journaled {
     /// The reply to an event, after an opening and a journal.
     ghost reply_of: { Self.Opening → List Self.Event → Self.Event → Self.Reply };
 
-    /// Whether an event is sure after an opening and a journal: it meets no fault but one of the outside.
+    /// Whether an event is sure after an opening and a journal: it meets no fault but one of the
+    /// outside.
     ghost sure: { Self.Opening → List Self.Event → Self.Event → Bool };
 
     /// Whether an event may meet a fault of the outside.
@@ -44,14 +45,19 @@ pub trait Journaled {
     ///
     /// # Errors
     ///
-    /// A fault of the outside, or want of memory. The journal is unchanged then, and the event comes back.
+    /// A fault of the outside, or want of memory. The journal is unchanged then, and the event
+    /// comes back.
     fn step(&mut self, event: Self::Event) -> Result<Self::Reply, (Self::Fault, Self::Event)>
+        // An event that is answered is the journal's last, and the reply is the rule's.
         ensures opening { opening self.new ≡ opening self.old }
         ensures entry { OnOk result (journal self.new ≡ journal self.old ++ event ∷ []) }
-        ensures reply { IfOk result (λ r. r ≡ reply_of (opening self.old) (journal self.old) event) }
+        ensures reply { IfOk result
+            (λ r. r ≡ reply_of (opening self.old) (journal self.old) event) }
         ensures blameless { OnOk result (blamed self.new ≡ blamed self.old) }
+        // On a fault nothing changed.
         ensures unchanged { OnErr result (journal self.new ≡ journal self.old) }
         ensures handed_back { IfErr result (λ e. e.1 ≡ event) }
+        // When there may be one: want of memory, or a fault of the outside, which is numbered.
         ensures unsure { IfErr result
             (λ e. blame_of e.0 ≡ 0 → sure (opening self.old) (journal self.old) event ≡ false) }
         ensures want { IfErr result (λ e. (blame_of e.0 ≡ 0) ↔ is_want e.0) }

@@ -1,4 +1,5 @@
-//! One book with a journal, which threads share as whole turns: each call of [`Turn::act`] is one event of one history.
+//! One book with a journal, which threads share as whole turns: each call of [`Turn::act`] is one
+//! event of one history.
 #![tactic(auto)]
 
 mod journaled;

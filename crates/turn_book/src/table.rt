@@ -49,7 +49,8 @@ pub struct BookTable<B: Journaled> {
 }
 
 impl<B: Journaled> BookTable<B> {
-    /// A table with the book at home, and the seat of the first pass. Out of memory the book is handed back.
+    /// A table with the book at home, and the seat of the first pass. Out of memory the book is
+    /// handed back.
     pub fn new(alloc: Global, book: B) -> Result<(BookTable<B>, Place<B>), B>
         ensures first { IfOk result
             (λ t. IsFirst B.opening B.journal

@@ -26,7 +26,8 @@ impl<B: Journaled> Model for Turn<B> {
     } };
 }
 
-/// What one caller knows of the history, and the entries that it made. The passes of a turn have 1,048,576 parts together.
+/// What one caller knows of the history, and the entries that it made. The passes of a turn have
+/// 1,048,576 parts together.
 pub struct Pass<B: Journaled> {
     place: Place<B>,
     // The stirs that there were before the last call.
@@ -44,7 +45,8 @@ impl<B: Journaled> Model for Pass<B> {
     ghost invariant = { λ p. IsIdle p.place.me };
 }
 
-// Written by hand: a derived one would ask it of the book, and no closure that holds a pass could go to a thread.
+// Written by hand: a derived one would ask it of the book, and no closure that holds a pass could
+// go to a thread.
 impl<B: Journaled> Drop for Pass<B> {
     fn drop(self) {
         let Self { place, stirs: _ } = self;
@@ -62,7 +64,8 @@ impl<B: Journaled> Pass<B> {
 }
 
 impl<B: Journaled> Turn<B> {
-    /// Shares a book. The first pass has seen its journal, and has no entry of its own and all parts.
+    /// Shares a book. The first pass has seen its journal, and has no entry of its own and all
+    /// parts.
     ///
     /// # Errors
     ///
@@ -77,12 +80,13 @@ impl<B: Journaled> Turn<B> {
         }
     }
 
-    /// One whole turn: the book takes the event and answers it, and the pass has then seen the history up to there. It waits for the
-    /// turns of others.
+    /// One whole turn: the book takes the event and answers it, and the pass has then seen the
+    /// history up to there. It waits for the turns of others.
     ///
     /// # Errors
     ///
-    /// What the book answers in this turn. Nothing is added to the history then, and the event comes back.
+    /// What the book answers in this turn. Nothing is added to the history then, and the event
+    /// comes back.
     pub fn act<R: Wait>(
         &self,
         rt: &R,
@@ -117,7 +121,8 @@ impl<B: Journaled> Turn<B> {
         self.table.learn(&mut pass.place)
     }
 
-    /// May wait for an entry whose reply stirs and that came after the pass's last call. It may return at any time.
+    /// May wait for an entry whose reply stirs and that came after the pass's last call. It may
+    /// return at any time.
     pub fn rest<R: Wait>(&self, rt: &R, pass: &mut Pass<B>)
         requires own { IsPassOf B.opening self.now pass.old }
         ensures own { IsPassOf B.opening self.now pass.new }
@@ -153,8 +158,8 @@ impl<B: Journaled> Turn<B> {
         self.table.join(&mut pass.place, other.into_place());
     }
 
-    /// The book, whose journal is the history. The pass has all parts, so no other is left, and each entry since the turn was made is its
-    /// own, just once.
+    /// The book, whose journal is the history. The pass has all parts, so no other is left, and
+    /// each entry since the turn was made is its own, just once.
     pub fn close(self, pass: Pass<B>) -> B
         requires own { IsPassOf B.opening self pass }
         requires parts { pass.parts ≡ 1048576 }

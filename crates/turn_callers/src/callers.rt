@@ -48,7 +48,8 @@ fn act_each<A: Admin, R: Wait>(
     (pass, replies)
 }
 
-/// Two threads act, each with its events in order. Each entry of the journal that came out is one thread's own.
+/// Two threads act, each with its events in order. Each entry of the journal that came out is one
+/// thread's own.
 ///
 /// # Errors
 ///

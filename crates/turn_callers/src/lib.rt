@@ -1,4 +1,5 @@
-//! Two threads that share a book as one turn: what each was answered, and that each entry of the journal is one's own.
+//! Two threads that share a book as one turn: what each was answered, and that each entry of the
+//! journal is one's own.
 #![tactic(auto)]
 
 mod callers;

@@ -1,5 +1,5 @@
-// A book of a cluster in memory. Where a call fails the tests panic, in place of `?`, so that a book is dropped at one place alone: the
-// proof of each drop is long.
+// A book of a cluster in memory. Where a call fails the tests panic, in place of `?`, so that a
+// book is dropped at one place alone: the proof of each drop is long.
 use cluster_gate::MemoryCluster;
 use control_core::Book;
 use core_terms::{Event, Reply};

@@ -56,7 +56,8 @@ fn replayed<R: Abort>(rt: &R, alloc: Global, journal: &[Mark]) -> Vec<String> {
     texts
 }
 
-// Those entries of the journal that are a caller's are what it asked, in order, and what it was answered there.
+// Those entries of the journal that are a caller's are what it asked, in order, and what it was
+// answered there.
 fn expect_own<R: Abort>(
     rt: &R,
     journal: &[Mark],
@@ -76,7 +77,8 @@ fn expect_own<R: Abort>(
     assert_eq!(rt; answers_left.next(), None);
 }
 
-// The journal has each caller's entries once and nothing else, and a replay gives the replies that were given.
+// The journal has each caller's entries once and nothing else, and a replay gives the replies that
+// were given.
 fn expect_one_history<R: Abort>(rt: &R, alloc: Global, shared: &Shared<MemoryCluster>) {
     let journal = marks_of(rt, alloc, shared.book.journal());
     assert_eq!(rt; journal.len(), ONE_ASKS.len() + OTHER_ASKS.len());

@@ -1,4 +1,5 @@
-//! Tests of a book that threads share. They show what no clause does: that two callers and two movers are at work at once.
+//! Tests of a book that threads share. They show what no clause does: that two callers and two
+//! movers are at work at once.
 #![tactic(auto)]
 
 #[cfg(test)]

@@ -75,7 +75,8 @@ fn moved_by_both<R: Threads + Wait + Abort + Sync>(rt: &R, alloc: Global) -> Mem
         { run_mover(rt, alloc, shared, pass, gate) },
         move || -> Back
             requires { Belongs shared.now pass_of_other }
-            ensures { Belongs shared.entry.now result.pass × (result.pass.parts ≡ pass_of_other.parts) }
+            ensures { Belongs shared.entry.now result.pass
+                × (result.pass.parts ≡ pass_of_other.parts) }
         { run_mover(rt, alloc, shared, pass_of_other, gate_of_other) },
     );
     expect_copied(rt, &one.gate, one.end);

@@ -81,7 +81,8 @@ impl Model for TaskTable {
 
     ghost view = { λ t. t.tasks.items };
 
-    ghost invariant = { λ t. (length t.tasks.items < 2 ^ 63) × (t.open ≡ open_count t.tasks.items) };
+    ghost invariant = { λ t. (length t.tasks.items < 2 ^ 63)
+        × (t.open ≡ open_count t.tasks.items) };
 }
 
 // The user task with this number.
@@ -113,8 +114,8 @@ impl TaskTable {
         self.tasks.as_slice()
     }
 
-    /// Makes the request the next user task, which is active, and answers its id. A fault hands the request back and changes
-    /// nothing.
+    /// Makes the request the next user task, which is active, and answers its id. A fault hands the
+    /// request back and changes nothing.
     pub fn admit(&mut self, ask: Ask) -> Result<Uuid, (AdmitFault, Ask)>
         ensures admitted { OnOk result
             (self.new ≡ self.old ++ record { ask = ask; status = status.Active } ∷ []) }

@@ -8,7 +8,8 @@ use std::alloc::Global;
 use std::process::Abort;
 use std::str;
 
-// A source that gives at most `next` bytes by its next read, and at most `later` bytes by each other.
+// A source that gives at most `next` bytes by its next read, and at most `later` bytes by each
+// other.
 #[derive(Drop)]
 struct Narrow {
     inner: MemorySource,
@@ -187,7 +188,8 @@ fn repeated(
 
 const LINE: &str = "GET / HTTP/1.1\r\n";
 
-// A first line, a piece of the rest and how often it stands, what stands behind it, and what is told.
+// A first line, a piece of the rest and how often it stands, what stands behind it, and what is
+// told.
 const REFUSED: [(&str, &str, usize, &str, &str); 27] = [
     (LINE, "Content-Length: x\r\n", 1, "\r\n", "BadLength"),
     (

@@ -1,4 +1,4 @@
-use Rattle.std.proofs.Common.{ℕ, List, ◌≤◌, length, map, take, drop, subst, sym, arith}
+use Rattle.std.proofs.Common.{ℕ, List, ◌≤◌, map, take, drop, subst, sym, arith}
 use Rattle.std.specs.List.{All, flat_map, slice_range}
 use Rattle.std.proofs.lemmas.List.{take_all}
 use Rattle.std.proofs.lemmas.List.Elements.{All-append}

@@ -1,4 +1,4 @@
-use Rattle.std.proofs.Common.{ℕ, map}
+use Rattle.std.proofs.Common.{ℕ, map, refl, get_or}
 use Rattle.std.proofs.lemmas.List.{take_all}
 use Rattle.std.proofs.lemmas.List.Elements.{All-more}
 use Rattle.plan_terms.specs.Trace.{Step}
@@ -28,3 +28,10 @@ returns g c =
     let lists = c.args.book.now.lists in
     none-flat (Step case (map (λ x. g.G.Goal.meaning x case) c.args.earlier.now) (g.G.Goal.meaning c.args.goal.now case) lists) (candidates_at c.args.kind case lists c.args.source.now.id)
     c.args.replicas.now (rw (take_all c.loop-part.part-index c.args.replicas.now c.loop-part-test.false) at c.loop-part.invariant)
+
+pub returns-then-serves_nobody : goal.returns-then-serves_nobody
+returns-then-serves_nobody g c =
+    let case = c.args.case.now in
+    let lists = c.args.book.now.lists in
+    none-flat (Step case (map (λ x. g.G.Goal.meaning x case) c.args.earlier.now) (g.G.Goal.meaning c.args.goal.now case) lists) (candidates_at c.args.kind case lists c.args.source.now.id)
+    c.args.replicas.now (λ k d l. c.if-serves_nobody.ensures refl (get_or c.args.replicas.now k d))

@@ -1,20 +1,10 @@
-use Rattle.std.proofs.Common.{sym, ap, ◌∙◌}
-use Rattle.std.proofs.lemmas.Bool.{false≢true, not-true}
-use Rattle.plan_terms.specs.declared.cluster.Options.{Options}
-use Rattle.candidate_order.proofs.SwapLemmas.{swap-live, swap-open, swap-balances, swap-old}
+use Rattle.std.proofs.Common.{refl, sym, ◌∙◌}
+use Rattle.std.proofs.lemmas.Bool.{false≢true}
+use Rattle.candidate_order.proofs.SwapLemmas.{swap-open}
 use Rattle.candidate_order.proofs.swaps.may_be_swapped.Goals as goal
-use Rattle.candidate_order.proofs.swaps.may_be_swapped.Goals.{then-options-via-then-options, then-options-via-else-options+then-any_new}
 
-pub returns-then-options : goal.returns-then-options
-returns-then-options c = λ _ lists q b legal. elim c.then-options.branch [
-  | then-options-via-then-options w ↦
-      false≢true (sym (not-true _ (swap-balances c.args.case.now lists c.args.part c.args.from q b legal)) ∙ ap (λ (o : Options). o.leads_only) (sym c.options.ensures) ∙ w.if-options.true)
-  | then-options-via-else-options+then-any_new w ↦
-      false≢true (sym (not-true _ (swap-old c.args.case.now lists c.args.part c.args.from q b legal)) ∙ sym w.any_new.ensures ∙ w.if-any_new.true)
-]
+pub returns-then-not-may_trade : goal.returns-then-not-may_trade
+returns-then-not-may_trade c = λ _ lists q b legal. c.if-not-may_trade.ensures refl lists c.args.part q b legal
 
-pub returns-then-is_open : goal.returns-then-is_open
-returns-then-is_open c = λ e lists q b legal. false≢true (sym e ∙ c.is_live.ensures ∙ swap-live c.args.case.now lists c.args.part c.args.from q b legal)
-
-pub returns-else-is_open : goal.returns-else-is_open
-returns-else-is_open c = λ e lists q b legal. false≢true (sym e ∙ c.is_open.ensures ∙ swap-open c.args.case.now lists c.args.part c.args.from q b legal)
+pub returns : goal.returns
+returns c = λ e lists q b legal. false≢true (sym e ∙ c.is_open.ensures ∙ swap-open c.args.case.now lists c.args.part c.args.from q b legal)

@@ -13,8 +13,14 @@ scan-init g c = record {
   belongs = c.requires.belongs;
   order_is = c.requires.order;
   case_is = refl;
-  weights_are = c.in_ok-scan.ensures;
+  kept_is = c.in_ok-scan.ensures;
 }
+
+pub note-requires-clause-applies : goal.note-requires-clause-applies
+note-requires-clause-applies g c = let first = rw c.in-Some.is at c.in_ok-next.ensures.next in fits-legal _ _ _ first.serves.legal
+
+pub note-requires-clause-scan : goal.note-requires-clause-scan
+note-requires-clause-scan g c = rw c.in-Some.is at c.in_ok-next.ensures.scan
 
 pub after-requires-clause-applies : goal.after-requires-clause-applies
 after-requires-clause-applies g c = let first = rw c.in-Some.is at c.in_ok-next.ensures.next in fits-legal _ _ _ first.serves.legal
@@ -39,5 +45,5 @@ scan-preserved g c = let first = rw c.in-Some.is at c.in_ok-next.ensures.next in
   };
   order_is = rw c.apply.ensures.lists c.after.ensures;
   case_is = c.apply.ensures.cluster ∙ c.scan.invariant.case_is;
-  weights_are = c.next_lessening.ensures.weights;
+  kept_is = rw c.apply.ensures.lists c.note.ensures;
 }

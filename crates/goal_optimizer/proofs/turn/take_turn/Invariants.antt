@@ -1,6 +1,6 @@
 use Rattle.std.proofs.Common.{map, ◌≡◌}
 use Rattle.candidate_order.specs.Order.{IsOrderOf}
-use Rattle.candidate_order.specs.Scan.{AreWeights}
+use Rattle.candidate_order.specs.Scan.{IsKept}
 use Rattle.goal_optimizer.specs.Firsts.{FirstSteps}
 use Rattle.plan_terms.specs.Belongs.{IsBookOf}
 use Rattle.plan_terms.specs.Effect.{after_all}
@@ -16,7 +16,7 @@ invariant-scan g l = record {
   belongs : IsBookOf l.case l.book;
   order_is : IsOrderOf l.case l.book.lists l.order;
   case_is : l.book.cluster ≡ l.initial.book.cluster;
-  weights_are : AreWeights g.G.Goal.weighs l.earlier l.case.parts l.scan.weights.items;
+  kept_is : IsKept g.G.Goal.weighs (λ x. g.G.Goal.room_at x l.case l.book.lists) l.earlier l.case l.scan;
 }
 
 abbrev pub decreases-scan : goal.decreases-scan

@@ -1,47 +1,23 @@
-//! Plans the partition moves that keep a Kafka cluster within its limits.
-#![tactic(auto)]
-
+// The whole program, once the outside was made.
 ghost use Rattle.std.specs.Prelude.{◌≡◌, ◌≢◌};
 ghost use Rattle.std.specs.Process.{exit_status};
 ghost use Rattle.cc_program.specs.Ends.{IsTold, line_of, status_of};
 ghost use Rattle.cc_program.specs.declared.ends.End.{End};
 
-mod answers;
-mod applies;
-mod checks;
-mod commands;
-mod ends;
-mod gens;
-mod input;
-mod lives;
-mod planning;
-mod plans;
-mod quiet;
-mod sessions;
-
-use cc_base::{Files, HostFiles, HostSink, HostSource, HostStream, Joined, Link, Sink};
+use crate::ends::{End, conclude};
+use crate::lives::{Outside, run_live};
+use crate::quiet::run_quiet;
+use cc_base::{Files, Link, Sink};
 use cluster_gate::{MemoryCluster, MemoryCopier};
 use command_words::wants_live;
-use ends::{End, conclude};
-use lives::{Outside, run_live};
-use net_links::{HostListener, Listener};
+use net_links::Listener;
 use plan_terms::Memory;
-use quiet::run_quiet;
 use std::alloc::Global;
+use std::io;
 use std::io::ErrorKind;
 use std::process::ExitCode;
 use std::sync::Wait;
 use std::thread::Threads;
-use std::{env, io};
-
-// The words of the command line, without the program's name.
-fn words_of(rt: &HostRuntime) -> io::Result<Vec<String>> {
-    let mut words = Vec::new(rt.alloc());
-    for word in env::args(rt)?.skip(1) {
-        words.push(word)?;
-    }
-    Ok(words)
-}
 
 // How a run ends whose words can't be had: for want of memory, or for a word that is no text.
 fn end_without_words(kind: ErrorKind) -> End
@@ -106,8 +82,10 @@ where
     exit_code(ended.status)
 }
 
-// Runs the words, if they can be had. The code is the status of how that ended, and the error stream has its line.
-fn run_words<
+/// Runs the words, if they can be had: [`run_live`] over a cluster in memory where they want
+/// threads, else [`run_quiet`]. The code is the status of how that ended, and the error stream has
+/// its line.
+pub fn run_words<
     R: Threads + Wait + Sync,
     F: Files,
     L: Link + Drop,
@@ -137,23 +115,4 @@ where
         }
         Err(e) => exit_code(conclude(err, &end_without_words(e.kind()))),
     }
-}
-
-fn main(rt: HostRuntime) -> ExitCode {
-    let words = words_of(&rt);
-    let mut files = HostFiles::new(rt);
-    let input = HostSource::new(rt.stdin());
-    let output = HostSink::new(HostStream::Out(rt.stdout()));
-    let console = Joined::new(input, output);
-    let mut err = HostSink::new(HostStream::Err(rt.stderr()));
-    let listener = HostListener::new(rt);
-    run_words(
-        &rt,
-        rt.alloc(),
-        words,
-        &mut files,
-        console,
-        listener,
-        &mut err,
-    )
 }
