@@ -10,3 +10,4 @@ pub mod Runs
 pub mod Sessions
 pub mod Lives
 pub mod Complete
+pub mod Entry

@@ -1,14 +1,16 @@
 // The whole program, once the outside was made.
-ghost use Rattle.std.specs.Prelude.{◌≡◌, ◌≢◌};
+ghost use Rattle.std.specs.Prelude.{◌≡◌, IfErr, IfOk, map, string_bytes, vec_len};
 ghost use Rattle.std.specs.Process.{exit_status};
+ghost use Rattle.std.specs.IoError.{error_kind};
 ghost use Rattle.cc_program.specs.Ends.{IsTold, line_of, status_of};
+ghost use Rattle.cc_program.specs.Entry.{AsWanted, IsWordless, RunsAlone, RunsLive};
 ghost use Rattle.cc_program.specs.declared.ends.End.{End};
 
 use crate::ends::{End, conclude};
 use crate::lives::{Outside, run_live};
 use crate::quiet::run_quiet;
 use cc_base::{Files, Link, Sink};
-use cluster_gate::{MemoryCluster, MemoryCopier};
+use cluster_gate::{Admin, Copier, MemoryCluster, MemoryCopier};
 use command_words::wants_live;
 use net_links::Listener;
 use plan_terms::Memory;
@@ -19,10 +21,11 @@ use std::process::ExitCode;
 use std::sync::Wait;
 use std::thread::Threads;
 
+const COPIERS: usize = 129;
+
 // How a run ends whose words can't be had: for want of memory, or for a word that is no text.
 fn end_without_words(kind: ErrorKind) -> End
-    ensures memory { kind ≡ ErrorKind.OutOfMemory → result ≡ End.Memory }
-    ensures usage { kind ≢ ErrorKind.OutOfMemory → result ≡ End.Usage }
+    ensures { IsWordless kind result }
 {
     if kind == ErrorKind::OutOfMemory {
         End::Memory
@@ -38,13 +41,16 @@ fn exit_code(status: u8) -> ExitCode
     ExitCode::from(status)
 }
 
-// As many copiers in memory as movers, links and the thread that serves may need at most.
-fn copiers(alloc: Global) -> Result<Vec<MemoryCopier>, Memory> {
-    let mut made = Vec::new(alloc);
-    for _ in 0..129u32 {
-        made.push(MemoryCopier::new(alloc))?;
-    }
-    Ok(made)
+// A copier in memory for each of 64 movers and 64 links, the most that words can ask for, and one
+// for the console and the drain.
+fn copiers(alloc: Global) -> Result<Vec<MemoryCopier>, Memory>
+    ensures { IfOk result (λ made. vec_len made ≡ 129) }
+{
+    Ok(
+        (0..COPIERS)
+            .map(|_| MemoryCopier::new(alloc))
+            .collect(alloc)?,
+    )
 }
 
 // Runs words that want a run with threads, over a cluster in memory.
@@ -67,7 +73,10 @@ where
     N::Conn: Send + Drop,
     ensures { (end : End) × (exit_status result ≡ status_of end)
         × IsTold (line_of end) (O.written err.old) (O.written err.new) (O.faults err.old)
-        (O.faults err.new) }
+        (O.faults err.new)
+        × RunsLive ⟦<MemoryCluster as Admin>⟧ ⟦<MemoryCopier as Copier>⟧ F.Files L.Source L.Sink
+        N.Listener N.Conn.Source N.Conn.Sink (map string_bytes words.now) files.old files.new
+        console listener end }
 {
     let Ok(copiers) = copiers(alloc) else {
         return exit_code(conclude(err, &End::Memory));
@@ -84,7 +93,7 @@ where
 
 /// Runs the words, if they can be had: [`run_live`] over a cluster in memory where they want
 /// threads, else [`run_quiet`]. The code is the status of how that ended, and the error stream has
-/// its line.
+/// its line. Words that can't be had end out of memory, or as a usage error where one is no text.
 pub fn run_words<
     R: Threads + Wait + Sync,
     F: Files,
@@ -104,7 +113,14 @@ where
     N::Conn: Send + Drop,
     ensures { (end : End) × (exit_status result ≡ status_of end)
         × IsTold (line_of end) (O.written err.old) (O.written err.new) (O.faults err.old)
-        (O.faults err.new) }
+        (O.faults err.new)
+        × IfErr words (λ e. IsWordless (error_kind e) end)
+        × IfOk words (λ given. AsWanted (map string_bytes given.items)
+        (RunsLive ⟦<MemoryCluster as Admin>⟧ ⟦<MemoryCopier as Copier>⟧ F.Files L.Source L.Sink
+        N.Listener N.Conn.Source N.Conn.Sink (map string_bytes given.items) files.old files.new
+        console listener end)
+        (RunsAlone F.Files L.Source L.Sink (map string_bytes given.items) files.old files.new
+        console end)) }
 {
     match words {
         Ok(words) => {

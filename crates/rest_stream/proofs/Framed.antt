@@ -1,5 +1,5 @@
 -- From the bytes that came to the stream.
-use Rattle.std.proofs.Common.{◌≡◌, ℕ, ◌+◌, ◌≤◌, ◌<◌, Bool, List, ◌++◌, length, take, drop, map, sym, ap, ◌∙◌, subst, append_assoc, arith, length-append, length-drop, Ok, Err, inl}
+use Rattle.std.proofs.Common.{◌≡◌, ℕ, ◌+◌, ◌≤◌, ◌<◌, Bool, List, ◌++◌, length, take, drop, map, sym, ap, ◌∙◌, subst, append_assoc, arith, length-append, length-drop, Ok, Err, ◌⊎◌, inl, inr}
 use Rattle.std.specs.Prelude.{Option, Some, None, IfSome}
 use Rattle.std.proofs.lemmas.List.{drop-drop, length-take-le, take-append-drop}
 use Rattle.std.proofs.Math.Seq.{drop-append_seam}
@@ -10,7 +10,8 @@ use Rattle.httparse.specs.declared.spans.RequestSpans.{RequestSpans}
 use Rattle.cc_base.specs.Outside.{after}
 use Rattle.rest_stream.specs.Fields.{framing, IsRefusal}
 use Rattle.rest_stream.specs.Heads.{IsFound, IsFramed, parts, request_with}
-use Rattle.rest_stream.specs.Stream.{HasHead, HasRefusedHead, IsCutBody, IsRequest, StopsBy, fields_of, window}
+use Rattle.rest_stream.proofs.Windows.{outside_stops}
+use Rattle.rest_stream.specs.Stream.{HasHead, HasRefusedHead, IsCutBody, IsOutside, IsRequest, StopsBy, fields_of, window}
 use Rattle.rest_stream.specs.declared.raw.Stop.{Stop}
 use Rattle.rest_stream.specs.declared.raw.Stop.TheVariants as stop
 use Rattle.rest_stream.specs.declared.request.Head.{Head}
@@ -102,3 +103,12 @@ request_told is_last (Some s) mid later body f framed same enough is_body end =
     let is_body' : body ≡ take f.size (drop f.len s) = (rw same at is_body) in
     let end' : later ≡ Some (drop (f.len + f.size) s) = (rw same at end) in
     rw end' (request_is is_last s body f framed enough' is_body')
+
+-- why no body is taken, where the source tells the stream
+pub body_stops : (o mid : Option (List ℕ)) (f : Framed) (why : Stop) → IfSome o (λ s. IsFramed s f) → mid ≡ o → (why ≡ stop.Truncated → IfSome mid (λ s. length s < f.len + f.size)) → (why ≡ stop.Truncated) ⊎ IsOutside why
+    → IfSome o (λ s. StopsBy s why)
+body_stops None mid f why framed same cut h = tt
+body_stops (Some s) mid f why framed same cut (inl e) =
+    let cut' : length s < f.len + f.size = (rw same at (cut e)) in
+    rw e (inr (cut_is s f framed cut'))
+body_stops (Some s) mid f why framed same cut (inr h) = outside_stops why s h

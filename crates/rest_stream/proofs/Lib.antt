@@ -1,4 +1,5 @@
 pub mod Digits
+pub mod Exits
 pub mod Framed
 pub mod Leading
 pub mod Lengths

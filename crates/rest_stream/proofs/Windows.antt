@@ -1,6 +1,6 @@
 -- What holds of the first bytes of a stream, whatever follows.
 use Rattle.std.proofs.Common.{◌≡◌, ℕ, zero, suc, ◌≤◌, List, [], ◌∷◌, ◌++◌, length, take, drop, refl, sym, ap, ◌∙◌, subst, append_assoc, arith, length-append}
-use Rattle.std.specs.Prelude.{Option, Some, None, IfSome}
+use Rattle.std.specs.Prelude.{IfErr, IfSome, None, Option, Result, Ok, Err, Some}
 use Rattle.std.proofs.lemmas.List.{append-nil, drop-append-le, take-append-le, take_all}
 use Rattle.httparse.specs.Grammar.{NeverHasRequest, HasNoRequest}
 use Rattle.cc_base.specs.Outside.{after}
@@ -40,6 +40,11 @@ stops_at_end xs why h = subst (λ (ys : List ℕ). StopsBy ys why) (append-nil x
 pub always_stops : (held held' : List ℕ) (left : Option (List ℕ)) (why : Stop) → held' ≡ held → AlwaysStopsBy held' why → IfSome (stream_of held left) (λ s. StopsBy s why)
 always_stops held held' None why same h = tt
 always_stops held held' (Some told) why same h = subst (λ (ys : List ℕ). StopsBy (ys ++ told) why) same (h told)
+
+-- the same of an answer
+pub always_stopped : {T : Type 0} (held held' : List ℕ) (left : Option (List ℕ)) (r : Result T Stop) → held' ≡ held → IfErr r (AlwaysStopsBy held') → IfErr r (λ e. IfSome (stream_of held left) (λ s. StopsBy s e))
+always_stopped held held' left (Ok x) same h = tt
+always_stopped held held' left (Err why) same h = always_stops held held' left why same h
 
 -- at the end of the input nothing follows
 pub last_stops : (held held' : List ℕ) (left : Option (List ℕ)) (why : Stop) → IfSome left (λ told. told ≡ []) → held' ≡ held → StopsBy held' why → IfSome (stream_of held left) (λ s. StopsBy s why)

@@ -96,13 +96,8 @@ fn framed_head<S: Source>(
     ensures cause { HasReadCause (S.faults source.old) (S.faults source.new) result }
     ensures beside { S.beside source.new ≡ S.beside source.old }
 {
-    match find_head(inbox, headers, source) {
-        Ok(spans) => match framed_by_spans(alloc, &inbox.held, headers, spans) {
-            Ok(framed) => Ok(framed),
-            Err(why) => Err(why),
-        },
-        Err(why) => Err(why),
-    }
+    let spans = find_head(inbox, headers, source)?;
+    framed_by_spans(alloc, &inbox.held, headers, spans)
 }
 
 // What the head with these parts frames.
@@ -120,17 +115,13 @@ fn framed_by_spans(
     ensures inside { ¬ (result ≡ Err stop.ReadFault) }
 {
     let front = window(held);
-    match framing(front, &headers[..spans.headers]) {
-        Ok(size) => match head_of(alloc, front, headers, spans) {
-            Ok(head) => Ok(Framed {
-                head,
-                len: spans.len,
-                size,
-            }),
-            Err(_) => Err(Stop::Memory),
-        },
-        Err(why) => Err(why),
-    }
+    let size = framing(front, &headers[..spans.headers])?;
+    let head = head_of(alloc, front, headers, spans)?;
+    Ok(Framed {
+        head,
+        len: spans.len,
+        size,
+    })
 }
 
 // Reads the body behind a head of this length, and uses up both.
@@ -162,13 +153,8 @@ fn take_body<S: Source>(
     ensures cause { HasReadCause (S.faults source.old) (S.faults source.new) result }
     ensures beside { S.beside source.new ≡ S.beside source.old }
 {
-    match read_to(inbox, source, len + size) {
-        Ok(()) => match take_front(alloc, &mut inbox.held, len, size) {
-            Ok(body) => Ok(body),
-            Err(_) => Err(Stop::Memory),
-        },
-        Err(why) => Err(why),
-    }
+    read_to(inbox, source, len + size)?;
+    Ok(take_front(alloc, &mut inbox.held, len, size)?)
 }
 
 // The request with what is kept of its head, and with its body.
@@ -207,11 +193,7 @@ pub fn take_request<S: Source>(
     ensures cause { HasReadCause (S.faults source.old) (S.faults source.new) result }
     ensures beside { S.beside source.new ≡ S.beside source.old }
 {
-    match framed_head(alloc, inbox, headers, source) {
-        Ok(Framed { head, len, size }) => match take_body(alloc, inbox, source, len, size) {
-            Ok(body) => Ok(request_with(head, body, is_last)),
-            Err(why) => Err(why),
-        },
-        Err(why) => Err(why),
-    }
+    let Framed { head, len, size } = framed_head(alloc, inbox, headers, source)?;
+    let body = take_body(alloc, inbox, source, len, size)?;
+    Ok(request_with(head, body, is_last))
 }

@@ -49,11 +49,7 @@ fn last_head(held: &[u8], headers: &mut [HeaderSpan]) -> Result<RequestSpans, St
     if held.is_empty() {
         return Err(Stop::End);
     }
-    match try_head(held, headers) {
-        Ok(Some(spans)) => Ok(spans),
-        Ok(None) => Err(Stop::Truncated),
-        Err(why) => Err(why),
-    }
+    try_head(held, headers)?.ok_or(Stop::Truncated)
 }
 
 // The bytes before the line end that these bytes end with.
@@ -118,19 +114,14 @@ fn look_or_read<S: Source>(
     ensures beside { S.beside source.new ≡ S.beside source.old }
 {
     if is_due {
-        match try_head(&inbox.held, headers) {
-            Ok(None) => {}
-            Ok(found) => return Ok(found),
-            Err(why) => return Err(why),
+        let found = try_head(&inbox.held, headers)?;
+        if found.is_some() {
+            return Ok(found);
         }
     }
-    match fill(inbox, source) {
-        Ok(0) => match last_head(&inbox.held, headers) {
-            Ok(spans) => Ok(Some(spans)),
-            Err(why) => Err(why),
-        },
-        Ok(_) => Ok(None),
-        Err(why) => Err(why),
+    match fill(inbox, source)? {
+        0 => Ok(Some(last_head(&inbox.held, headers)?)),
+        _ => Ok(None),
     }
 }
 
@@ -159,10 +150,8 @@ pub fn find_head<S: Source>(
         if due {
             looked = seen;
         }
-        match look_or_read(inbox, headers, source, due) {
-            Ok(Some(spans)) => return Ok(spans),
-            Ok(None) => {}
-            Err(why) => return Err(why),
+        if let Some(spans) = look_or_read(inbox, headers, source, due)? {
+            return Ok(spans);
         }
     }
 }
@@ -181,10 +170,8 @@ pub fn read_to<S: Source>(inbox: &mut Inbox, source: &mut S, count: usize) -> Re
     ensures beside { S.beside source.new ≡ S.beside source.old }
 {
     while inbox.held.len() < count {
-        match fill(inbox, source) {
-            Ok(0) => return Err(Stop::Truncated),
-            Ok(_) => {}
-            Err(why) => return Err(why),
+        if fill(inbox, source)? == 0 {
+            return Err(Stop::Truncated);
         }
     }
     Ok(())
