@@ -154,10 +154,7 @@ pub fn read_some<S: Source>(source: &mut S, buf: &mut [u8]) -> Result<usize, Rea
     ensures failed { OnErr result (S.left source.new ≡ S.left source.old) }
     ensures beside { S.beside source.new ≡ S.beside source.old }
 {
-    match source.read(buf) {
-        Ok(n) => Ok(n),
-        Err(Failed) => Err(ReadFault),
-    }
+    source.read(buf).map_err(|_| ReadFault)
 }
 
 /// Writes all the bytes, by as many calls as the sink needs.

@@ -90,10 +90,7 @@ pub fn load<F: Files>(
     ensures logs { LoadLogs (F.log files.old) (F.log files.new) (asked request.now) result }
 {
     match source(alloc, files, request) {
-        Ok(bytes) => match read_cluster(alloc, &bytes) {
-            Ok(file) => Ok(file),
-            Err(refusal) => Err(refused(alloc, &refusal)),
-        },
+        Ok(bytes) => read_cluster(alloc, &bytes).map_err(|e| refused(alloc, &e)),
         Err(FileFault::Failed) => Err(LoadFault::Failed),
         Err(FileFault::Memory) => Err(LoadFault::Memory),
     }

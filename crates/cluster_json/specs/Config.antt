@@ -1,5 +1,5 @@
 -- The configuration of a file.
-use Rattle.std.specs.Prelude.{ℕ, false, List, [], ◌∷◌, if◌then◌else◌, Option, Some, None, Ok, Err, codes}
+use Rattle.std.specs.Prelude.{false, List, [], ◌∷◌, if◌then◌else◌, Option, Some, None, Ok, Err, codes}
 use Rattle.serde_json.specs.Data.{Data, Members, no_members, member}
 use Rattle.serde_json.specs.Find.{as_object}
 use Rattle.plan_terms.specs.Fraction.{Fraction}

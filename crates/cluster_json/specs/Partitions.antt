@@ -1,5 +1,5 @@
 -- The partitions of a file.
-use Rattle.std.specs.Prelude.{ℕ, suc, ◌^◌, ◌==◌, Bool, false, not, ◌&&◌, ◌||◌, nat_le, List, [], length, bytes_eq, if◌then◌else◌, Option, Some, None, unwrap_or, is_some, Ok, Err, codes}
+use Rattle.std.specs.Prelude.{ℕ, suc, ◌==◌, Bool, false, not, ◌&&◌, ◌||◌, nat_le, List, [], length, bytes_eq, if◌then◌else◌, Option, Some, None, unwrap_or, is_some, Ok, Err, codes}
 use Rattle.std.specs.List.{list_all}
 use Rattle.serde_json.specs.Data.{Data, Items, no_items, item}
 use Rattle.plan_terms.specs.declared.cluster.Loads.{Loads}

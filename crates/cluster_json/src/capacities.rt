@@ -217,15 +217,12 @@ fn read_entries(alloc: Global, value: Option<&Value>) -> Result<Option<Entries>,
 }
 
 /// The member `brokerCapacities`.
-#[tactic(auto, using(crate::proofs::Fails::fails_under))]
 pub fn entries_in(alloc: Global, object: &Value) -> Result<Option<Entries>, FileRefusal>
     ensures { Gives entries_seen result
         (inside (codes "brokerCapacities") (optional None entries_at) (view object.now)) }
 {
-    match read_entries(alloc, object.get("brokerCapacities")) {
-        Ok(entries) => Ok(entries),
-        Err(e) => Err(in_member(alloc, "brokerCapacities", e)),
-    }
+    let entries = read_entries(alloc, object.get("brokerCapacities"));
+    entries.map_err(|e| in_member(alloc, "brokerCapacities", e))
 }
 
 fn entry_for(entries: &Entries, owner: Owner) -> Option<Res4>
@@ -242,10 +239,7 @@ fn cap_of(entries: &Option<Entries>, broker: u32) -> Option<Res4>
     let Some(entries) = entries else {
         return Some(FULL);
     };
-    match entry_for(entries, Some(u64::from(broker))) {
-        Some(cap) => Some(cap),
-        None => entry_for(entries, None),
-    }
+    entry_for(entries, Some(u64::from(broker))).or_else(|| entry_for(entries, None))
 }
 
 #[tactic(auto, unfolding(crate::specs::Capacities::equipped))]

@@ -173,15 +173,11 @@ fn read_config(alloc: Global, config: Option<&Value>) -> Result<Config, FileRefu
 }
 
 /// The member `config`.
-#[tactic(auto, using(crate::proofs::Fails::fails_under))]
 pub fn config_in(alloc: Global, object: &Value) -> Result<Config, FileRefusal>
     ensures means { Gives (λ c. c) result (inside (codes "config") config_at (view object.now)) }
     ensures caps { IfOk result (λ c. AreCaps c.caps) }
     ensures rules { IfOk result (λ c. AreRules c.rules) }
     ensures share { IfOk result (λ c. IsShare c.ratio) }
 {
-    match read_config(alloc, object.get("config")) {
-        Ok(config) => Ok(config),
-        Err(e) => Err(in_member(alloc, "config", e)),
-    }
+    read_config(alloc, object.get("config")).map_err(|e| in_member(alloc, "config", e))
 }

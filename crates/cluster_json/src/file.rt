@@ -1,5 +1,5 @@
 // A whole cluster file.
-ghost use Rattle.std.specs.Prelude.{◌≡◌, map, length, slice_index, IfOk};
+ghost use Rattle.std.specs.Prelude.{◌≡◌, ◌≢◌, map, length, slice_index, IfOk};
 ghost use Rattle.std.specs.List.{All};
 ghost use Rattle.plan_terms.specs.Belongs.{Belongs};
 ghost use Rattle.plan_terms.specs.Faults.{cluster_fault, lists_fault};
@@ -139,6 +139,17 @@ fn options_with(mut options: Options, min_leaders: MinLeadersList) -> Options
     options
 }
 
+// The refusal of brokers, partitions or lists that make no cluster.
+fn of_case(fault: CaseFault) -> FileRefusal
+    ensures memory { fault ≡ CaseFault.Memory → result ≡ FileRefusal.Memory }
+    ensures told { fault ≢ CaseFault.Memory → result ≡ FileRefusal.Case fault }
+{
+    match fault {
+        CaseFault::Memory => FileRefusal::Memory,
+        fault => FileRefusal::Case(fault),
+    }
+}
+
 // The case of a file's brokers and partitions.
 fn case_of(
     alloc: Global,
@@ -152,11 +163,7 @@ fn case_of(
     ensures case { IfOk result
         (λ c. c ≡ record { brokers = brokers.items; parts = parts.items; options = options }) }
 {
-    match Case::new(alloc, brokers, parts, options) {
-        Ok(case) => Ok(case),
-        Err(CaseFault::Memory) => Err(FileRefusal::Memory),
-        Err(fault) => Err(FileRefusal::Case(fault)),
-    }
+    Case::new(alloc, brokers, parts, options).map_err(|fault| of_case(fault))
 }
 
 // The assignment of a file's lists.
@@ -167,11 +174,7 @@ fn assignment_of(alloc: Global, case: &Case, lists: Vec<Vec<u32>>) -> Result<Ass
     ensures lists { IfOk result (λ a. a ≡ map (λ list. list.items) lists.items) }
     ensures belongs { IfOk result (Belongs case.now) }
 {
-    match Assign::new(alloc, case, lists) {
-        Ok(lists) => Ok(lists),
-        Err(CaseFault::Memory) => Err(FileRefusal::Memory),
-        Err(fault) => Err(FileRefusal::Case(fault)),
-    }
+    Assign::new(alloc, case, lists).map_err(|fault| of_case(fault))
 }
 
 // The file that the members make.

@@ -60,17 +60,13 @@ fn read_topic<'v>(
     }
 }
 
-#[tactic(auto, using(crate::proofs::Fails::fails_under))]
 fn topic_in<'v>(alloc: Global, seen: &Seen<'_>, object: &'v Value) -> Result<&'v str, FileRefusal>
     ensures means { Gives (λ s. s.now) result
         (inside (codes "topic") (required (new_topic_at (texts_seen seen.now.keys)))
         (view object.now)) }
     ensures new { IfOk result (λ s. list_any (bytes_eq s.now) (texts_seen seen.now.keys) ≡ false) }
 {
-    match read_topic(alloc, seen, object.get("topic")) {
-        Ok(topic) => Ok(topic),
-        Err(e) => Err(in_member(alloc, "topic", e)),
-    }
+    read_topic(alloc, seen, object.get("topic")).map_err(|e| in_member(alloc, "topic", e))
 }
 
 #[tactic(auto, unfolding(crate::specs::Leaders::leaders_at))]
@@ -90,7 +86,6 @@ fn read_entry<'v>(
     Ok(Entry { topic, leaders })
 }
 
-#[tactic(auto, using(crate::proofs::Fails::fails_under))]
 fn entry_item<'v>(
     alloc: Global,
     seen: &Seen<'_>,
@@ -102,10 +97,7 @@ fn entry_item<'v>(
     ensures new { IfOk result
         (λ e. list_any (bytes_eq e.topic.now) (texts_seen seen.now.keys) ≡ false) }
 {
-    match read_entry(alloc, seen, value) {
-        Ok(entry) => Ok(entry),
-        Err(e) => Err(in_item(alloc, index, e)),
-    }
+    read_entry(alloc, seen, value).map_err(|e| in_item(alloc, index, e))
 }
 
 // Notes a topic that no entry so far names.

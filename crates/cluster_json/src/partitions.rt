@@ -52,10 +52,11 @@ fn is_topic(text: &str) -> bool
 pub fn topic_name(alloc: Global, value: &Value) -> Result<&str, FileRefusal>
     ensures { Gives (λ s. s.now) result (topic_at (view value.now)) }
 {
-    match read_text(alloc, value) {
-        Ok(name) if is_topic(name) => Ok(name),
-        Ok(_) => Err(FileRefusal::BadTopic(String::new(alloc))),
-        Err(e) => Err(e),
+    let name = read_text(alloc, value)?;
+    if is_topic(name) {
+        Ok(name)
+    } else {
+        Err(FileRefusal::BadTopic(String::new(alloc)))
     }
 }
 

@@ -151,7 +151,6 @@ fn read_required<S: Shape>(
 }
 
 /// A member that has to be there.
-#[tactic(auto, using(crate::proofs::Fails::fails_under))]
 pub fn required<S: Shape>(
     alloc: Global,
     object: &Value,
@@ -162,10 +161,7 @@ pub fn required<S: Shape>(
         (inside name.now (required (S.meaning shape.now)) (view object.now)) }
     ensures keeps { IfOk result (S.Keeps shape.now) }
 {
-    match read_required(alloc, object.get(name), shape) {
-        Ok(x) => Ok(x),
-        Err(e) => Err(in_member(alloc, name, e)),
-    }
+    read_required(alloc, object.get(name), shape).map_err(|e| in_member(alloc, name, e))
 }
 
 fn read_optional<S: Shape>(
@@ -186,7 +182,6 @@ fn read_optional<S: Shape>(
 }
 
 /// A member that may be absent.
-#[tactic(auto, using(crate::proofs::Fails::fails_under))]
 pub fn optional<S: Shape>(
     alloc: Global,
     object: &Value,
@@ -199,14 +194,10 @@ pub fn optional<S: Shape>(
         (inside name.now (optional default (S.meaning shape.now)) (view object.now)) }
     ensures keeps { IfOk result (S.Keeps shape.now) }
 {
-    match read_optional(alloc, object.get(name), shape, default) {
-        Ok(x) => Ok(x),
-        Err(e) => Err(in_member(alloc, name, e)),
-    }
+    read_optional(alloc, object.get(name), shape, default).map_err(|e| in_member(alloc, name, e))
 }
 
 /// An item of a list.
-#[tactic(auto, using(crate::proofs::Fails::fails_under))]
 pub fn item<S: Shape>(
     alloc: Global,
     index: usize,
@@ -217,10 +208,9 @@ pub fn item<S: Shape>(
         (under (index_step index) (S.meaning shape.now (view value.now))) }
     ensures keeps { IfOk result (S.Keeps shape.now) }
 {
-    match shape.read(alloc, value) {
-        Ok(x) => Ok(x),
-        Err(e) => Err(in_item(alloc, index, e)),
-    }
+    shape
+        .read(alloc, value)
+        .map_err(|e| in_item(alloc, index, e))
 }
 
 fn items<S: Shape>(alloc: Global, values: &[Value], shape: &S) -> Result<Vec<S::Out>, FileRefusal>

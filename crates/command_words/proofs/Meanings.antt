@@ -1,5 +1,5 @@
 -- What clap's answer says of the meaning of the words.
-use Rattle.std.proofs.Common.{◌≡◌, ◌≢◌, ◌⊎◌, inl, inr, ◌∙◌, Option, None, option_and_then, sym, ap, refl, List, [], ◌∷◌, true}
+use Rattle.std.proofs.Common.{◌≡◌, ◌≢◌, inl, inr, ◌∙◌, Option, None, option_and_then, sym, ap, refl, List, [], ◌∷◌, true}
 use Rattle.clap.specs.Words.{App, Text, HasMatchesOf, HasKind, IsAmong, Kinds, is_simple, is_simple_and_free, fault_of, kind_of, subcommand_of, subcommand_rows_of}
 use Rattle.clap.specs.declared.error.Error.{Error}
 use Rattle.clap.specs.declared.error.kind.ErrorKind.{ErrorKind}

@@ -281,10 +281,8 @@ impl Exec {
     fn first_to_start(&self) -> Option<usize>
         ensures { result ≡ position (may_start self.now.caps self.now.tasks) self.now.tasks }
     {
-        match self.queue.first_fitting(&self.caps, &self.counts) {
-            None => None,
-            Some(i) => Some(i as usize),
-        }
+        let first = self.queue.first_fitting(&self.caps, &self.counts)?;
+        Some(first as usize)
     }
 
     /// Gives the next work, under a new lease.
@@ -458,10 +456,8 @@ impl Exec {
         ensures { result ≡ held self.now lease }
     {
         let tasks = self.tasks.as_slice();
-        match self.holder(lease) {
-            None => None,
-            Some(i) => held_by(i, &tasks[i]),
-        }
+        let i = self.holder(lease)?;
+        held_by(i, &tasks[i])
     }
 
     /// Stops the execution: aborts the tasks that wait, and with force makes those in progress
@@ -770,16 +766,14 @@ fn held_by(i: usize, task: &Task) -> Option<Given>
     requires { i < 2 ^ 32 }
     ensures { result ≡ held_for i task.now }
 {
-    match task.lease {
-        None => None,
-        Some(lease) => Some(Given {
-            lease: lease.number,
-            task: i as u32,
-            part: task.part,
-            work: lease.work,
-            starts: false,
-        }),
-    }
+    let lease = task.lease?;
+    Some(Given {
+        lease: lease.number,
+        task: i as u32,
+        part: task.part,
+        work: lease.work,
+        starts: false,
+    })
 }
 
 // The list of a task's partition, given the one that it has while it is in flight.

@@ -110,10 +110,7 @@ fn floor_in(min_leaders: &[MinLeaders], topic: &Topic) -> Option<u32>
     let named = min_leaders
         .iter()
         .find(|entry| entry.topic.as_str() == topic.as_str());
-    match named {
-        Some(entry) => Some(entry.leaders),
-        None => None,
-    }
+    named.map(|entry| entry.leaders)
 }
 
 fn floors_of(

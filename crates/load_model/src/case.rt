@@ -202,10 +202,8 @@ impl Case {
     pub fn broker(&self, id: u32) -> Option<&Broker>
         ensures { option_map (λ b. b.now) result ≡ broker_of self.now.brokers id }
     {
-        match self.place(id) {
-            Some(place) => Some(&self.brokers[place]),
-            None => None,
-        }
+        let place = self.place(id)?;
+        Some(&self.brokers[place])
     }
 
     /// Whether the broker is one of the case, and not lost.

@@ -1,5 +1,5 @@
 -- Rounds behind rounds.
-use Rattle.std.proofs.Common.{◌≡◌, ℕ, ◌+◌, Bool, List, [], ◌∷◌, ◌++◌, length, Ok, Err, refl, ap, sym, ◌∙◌, subst, append_assoc, append-nil, arith, length-append}
+use Rattle.std.proofs.Common.{◌≡◌, ℕ, ◌+◌, Bool, List, [], ◌∷◌, ◌++◌, length, Ok, Err, refl, ap, sym, ◌∙◌, subst, append_assoc, append-nil, arith, length-append, inl, inr, ◌⊎◌}
 use Rattle.std.specs.List.{AllByRecursion}
 use Rattle.cluster_gate.specs.declared.copier.ChunkCopy.{ChunkCopy}
 use Rattle.core_terms.specs.declared.events.Event.{Event}
@@ -8,7 +8,8 @@ use Rattle.core_terms.specs.declared.replies.Reason.{Reason}
 use Rattle.mover_rounds.specs.Asked.{Entry, Known, Rules}
 use Rattle.mover_rounds.specs.Rounds.{IsLookedRound, IsRound, done, idle}
 use Rattle.mover_rounds.specs.Made.{AreDone, AreRounds, Copies, HasDone, HasMade, HasRound, IsBroken, IsRoundMade, copies_of, joined}
-use Rattle.mover_rounds.specs.Drained.{AreBroken, AreFound, AreIdle, AreSome, HasFound}
+use Rattle.mover_rounds.specs.Drained.{AreBroken, AreIdle, AreSome, HasFound}
+use Rattle.mover_rounds.specs.declared.round.Found.{Found}
 use Rattle.mover_rounds.specs.declared.round.Found.TheVariants.{Planned, Worked, Idle}
 use Rattle.mover_rounds.proofs.Pumping.{copies_append, made_both, planned_more, rounds_end, rounds_later, worked_more}
 use Rattle.mover_rounds.proofs.Prefixes.{prefix_self}
@@ -49,6 +50,16 @@ counted v u k j h = record { made = h.made; copies = h.copies; own = h.own; copi
 some : (v u : Known) (k j : Copies) (n : ℕ) → HasDone v u k j n → HasMade (AreSome v.rules u.seen) v u k j
 some v u k j n h = record { made = h.made; copies = h.copies; own = h.own; copied = h.copied; is = (n, h.is); failed = h.failed; rules = h.rules; longer = h.longer }
 
+-- what ends the rounds of a drain for a while: a job that was planned, or neither a job nor work
+abbrev pub Stops : Found → Type 0
+Stops found = (found ≡ Planned) ⊎ ((why : Reason) × (closing : Bool) × (found ≡ Idle why closing))
+
+pub each_stop : (P : Found → Type 0) (found : Found) → Stops found → P Planned → ((why : Reason) (closing : Bool) → P (Idle why closing)) → P found
+each_stop P Planned is job none = job
+each_stop P Worked (inl e) job none = absurd cc
+each_stop P Worked (inr e) job none = absurd (let is = e.2 in cc)
+each_stop P (Idle why closing) is job none = none why closing
+
 module _ (v u w : Known) (k j l : Copies) (so_far : HasMade (AreSome v.rules u.seen) v u k j) where
   pub some_worked : HasRound u w j l (Ok Worked) → HasMade (AreSome v.rules w.seen) v w k l
   some_worked h = some v w k l (so_far.is.0 + 1) (worked_more v u w k j l so_far.is.0 (counted v u k j so_far) h)
@@ -59,6 +70,9 @@ module _ (v u w : Known) (k j l : Copies) (so_far : HasMade (AreSome v.rules u.s
   pub some_idle : (why : Reason) (closing : Bool) → HasRound u w j l (Ok (Idle why closing)) → HasMade (AreIdle v.rules w.seen) v w k l
   some_idle why closing h = made_both (AreSome v.rules u.seen) (IsRoundMade (IsLookedRound u.rules w.seen) u.rules w.seen idle) (AreIdle v.rules w.seen) v u w k j l
       (λ a ca b cb p q. (p.0, rounds_end v.rules u.seen w.seen p.0 (IsRoundMade (IsLookedRound v.rules w.seen) v.rules w.seen idle) a ca b cb p.1 (subst (λ r. IsRoundMade (IsLookedRound r w.seen) r w.seen idle b cb) so_far.rules q))) so_far h
+
+  pub some_found : (found : Found) → Stops found → HasRound u w j l (Ok found) → HasFound v w k l (Ok found)
+  some_found found is = each_stop (λ x. HasRound u w j l (Ok x) → HasFound v w k l (Ok x)) found is some_planned some_idle
 
   pub some_broken : (f : StepFault) → HasRound u w j l (Err f) → HasMade (AreBroken v.rules w.seen) v w k l
   some_broken f h = made_both (AreSome v.rules u.seen) (IsBroken (IsRound u.rules w.seen) u.rules w.seen) (AreBroken v.rules w.seen) v u w k j l

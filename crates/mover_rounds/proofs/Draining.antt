@@ -1,5 +1,5 @@
 -- What a round leaves to the owner of a book.
-use Rattle.std.proofs.Common.{◌≡◌, ℕ, ◌<◌, ◌≤◌, Bool, true, false, List, [], ◌∷◌, ◌++◌, arith, refl, ap, sym, ◌∙◌, Ok}
+use Rattle.std.proofs.Common.{◌≡◌, ℕ, Bool, true, List, [], ◌∷◌, ◌++◌, arith, refl, ap, sym, ◌∙◌, Ok}
 use Rattle.std.specs.Prelude.{fold}
 use Rattle.std.proofs.lemmas.List.Sums.{fold-append}
 use Rattle.cluster_json.specs.File.{Meaning}
@@ -20,7 +20,7 @@ use Rattle.core_laws.specs.Alone.{IdleIsDone, IsDone, IsLess, IsPlanned, IsQuiet
 use Rattle.core_laws.specs.Events.{RefusalsKeepState}
 use Rattle.core_laws.specs.Laws.{HistoriesAreSound}
 use Rattle.control_core.specs.Books.{BookView, state_of}
-use Rattle.mover_rounds.specs.Asked.{Entry, core_rules, entries_from, reply_to}
+use Rattle.mover_rounds.specs.Asked.{Entry, core_rules, entries_from}
 use Rattle.mover_rounds.specs.Rounds.{IsIdle, IsJob, IsLookedRound, IsNoJob, IsPlanRound, IsWork, done, idle}
 use Rattle.mover_rounds.specs.Made.{Copies, HasRound}
 use Rattle.mover_rounds.specs.Owned.{known_by_owner}

@@ -1,13 +1,13 @@
 -- What an asking tells of the end of a round.
-use Rattle.std.proofs.Common.{◌≡◌, ℕ, Bool, true, false, List, [], ◌∷◌, ◌++◌, Result, Ok, Err, refl, ap, sym, ◌∙◌, subst, IfOk, IfErr, append-nil}
+use Rattle.std.proofs.Common.{◌≡◌, true, false, List, [], ◌∷◌, ◌++◌, Result, Ok, Err, refl, ap, sym, ◌∙◌, subst, IfOk, IfErr, append-nil}
 use mathlib.Core.List.{IsPrefix}
 use Rattle.core_terms.specs.History.{is_outward}
 use Rattle.core_terms.specs.declared.events.Event.{Event}
 use Rattle.core_terms.specs.declared.replies.Reply.{Reply}
 use Rattle.cc_base.specs.Outside.{HasRisen}
-use Rattle.mover_rounds.specs.Asked.{Rules, Entry, Known, HasAsked, IsUnasked, IsAskFault}
+use Rattle.mover_rounds.specs.Asked.{Rules, Entry, Known, HasAsked, IsUnasked}
 use Rattle.mover_rounds.specs.Rounds.{Unsure}
-use Rattle.mover_rounds.specs.Made.{Added, IsReturned, WasBusy, Returned, Failed, IsCause, until}
+use Rattle.mover_rounds.specs.Made.{Added, IsReturned, Returned, Failed, IsCause, until}
 use Rattle.core_terms.specs.declared.faults.StepFault.{StepFault}
 use Rattle.core_terms.specs.declared.faults.StepFault.TheVariants.{AdminFault, Memory}
 use Rattle.mover_rounds.proofs.Prefixes.{prefix_self, prefix_trans, prefix_twice}
@@ -46,6 +46,10 @@ returned_from rules seen from to back (y ∷ z ∷ zs) p r = r
 cause_by : (v u w : Known) (e : Event) (f : StepFault) → IsUnasked v u e f → w.blamed ≡ u.blamed → IsPrefix u.seen w.seen → IsCause v w f
 cause_by v u w e (AdminFault n) un b p = (un.told.1 ∙ sym b, subst (λ x. HasRisen v.blamed x) (sym b) un.told.2, record { history = u.seen; longer = un.longer; saw = p; unfinished = ap (λ r. r.unfinished u.seen) (sym un.rules) ∙ un.told.3 })
 cause_by v u w e Memory un b p = b ∙ un.told.1
+
+-- an event that was not taken
+pub cause_unasked : (v w : Known) (e : Event) (f : StepFault) → IsUnasked v w e f → IsCause v w f
+cause_unasked v w e f un = cause_by v w w e f un refl (prefix_self w.seen)
 
 -- the cause of a call that another one ended with
 pub cause_earlier : (v u w : Known) (f : StepFault) → u.rules ≡ v.rules → IsPrefix v.seen u.seen → u.blamed ≡ v.blamed → IsCause u w f → IsCause v w f

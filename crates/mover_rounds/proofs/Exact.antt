@@ -1,6 +1,5 @@
 -- No copy of the owner of a book is lost.
 use Rattle.std.proofs.Common.{◌≡◌, ℕ, true, false, List, [], ◌∷◌, ◌++◌, refl, ap, sym, ◌∙◌, append_assoc, append-nil, inl, inr, ◌⊎◌}
-use Rattle.std.specs.List.{AllByRecursion}
 use Rattle.std.proofs.lemmas.Bool.{true≢false}
 use mathlib.Core.List.{IsPrefix}
 use Rattle.cluster_json.specs.File.{Meaning}
@@ -8,8 +7,7 @@ use Rattle.cluster_gate.specs.declared.copier.ChunkCopy.{ChunkCopy}
 use Rattle.exec_terms.specs.declared.replies.Given.{Given}
 use Rattle.core_terms.specs.Ends.{Works}
 use Rattle.core_terms.specs.Input.{IsInput}
-use Rattle.core_terms.specs.History.{AreLegal, IsLegal, is_sure_after, reply_after, state_after}
-use Rattle.core_terms.specs.Step.{next, reply_of}
+use Rattle.core_terms.specs.History.{AreLegal, is_sure_after, reply_after, state_after}
 use Rattle.core_terms.specs.declared.events.Event.{Event}
 use Rattle.core_terms.specs.declared.events.Event.TheVariants as event
 use Rattle.core_terms.specs.declared.pumps.PumpEnd.{PumpEnd}
@@ -19,10 +17,10 @@ use Rattle.core_terms.specs.declared.replies.Reply.TheVariants as reply
 use Rattle.core_laws.specs.Alone.{TakenWorkIsOut}
 use Rattle.core_laws.specs.Laws.{HistoriesAreSound}
 use Rattle.control_core.specs.Books.{BookView}
-use Rattle.mover_rounds.specs.Asked.{Entry, Rules, core_rules, entries_from, reply_to, through}
-use Rattle.mover_rounds.specs.Rounds.{IsLookedRound, IsRound, Unsure, idle, look, undone}
-use Rattle.mover_rounds.specs.Made.{AreDone, AreRounds, Copies, HasMade, HasPumped, IsBroken, IsLost, IsLostCopy, IsPumped, IsRoundMade, LostIn, copies_of, until}
-use Rattle.mover_rounds.specs.Drained.{AreBroken, AreIdle, HasDrained, IsDrained}
+use Rattle.mover_rounds.specs.Asked.{Entry, core_rules, entries_from}
+use Rattle.mover_rounds.specs.Rounds.{IsLookedRound, IsRound, idle}
+use Rattle.mover_rounds.specs.Made.{AreRounds, Copies, HasPumped, IsBroken, IsLostCopy, IsPumped, IsRoundMade, LostIn, copies_of, until}
+use Rattle.mover_rounds.specs.Drained.{HasDrained, IsDrained}
 use Rattle.mover_rounds.specs.Exact.{HasDrainedAlone, HasPumpedAlone}
 use Rattle.mover_rounds.specs.Owned.{known_by_owner}
 use Rattle.mover_rounds.specs.declared.drains.DrainEnd.{DrainEnd}

@@ -1,14 +1,13 @@
 -- What holds of rounds as far as an actor has seen holds when it has seen more.
-use Rattle.std.proofs.Common.{◌≡◌, ℕ, ◌<◌, Bool, true, false, List, [], ◌∷◌, ◌++◌, Option, Some, None, Result, Ok, Err, inl, inr, ◌⊎◌}
+use Rattle.std.proofs.Common.{◌≡◌, ℕ, true, false, List, [], ◌∷◌, inl, inr, ◌⊎◌}
 use mathlib.Core.List.{IsPrefix}
 use Rattle.cluster_gate.specs.declared.copier.ChunkCopy.{ChunkCopy}
-use Rattle.exec_terms.specs.declared.replies.Given.{Given}
 use Rattle.core_terms.specs.declared.events.Event.{Event}
 use Rattle.core_terms.specs.declared.replies.Reply.{Reply}
 use Rattle.core_terms.specs.declared.replies.Reply.TheVariants as reply
 use Rattle.mover_rounds.specs.Asked.{Rules, Entry, reply_to, through}
 use Rattle.mover_rounds.specs.Rounds.{Standing, done, undone, idle, look, Unsure, IsEnd, IsWorkRound, IsPlanRound, IsLookedRound, IsRound}
-use Rattle.mover_rounds.specs.Made.{copies_of, IsLost, IsLostCopy, LostIn, IsRoundMade, IsBroken, AreRounds, IsPumped, until}
+use Rattle.mover_rounds.specs.Made.{copies_of, IsLostCopy, LostIn, IsBroken, AreRounds, IsPumped, until}
 use Rattle.core_terms.specs.declared.pumps.PumpEnd.{PumpEnd}
 use Rattle.core_terms.specs.declared.pumps.PumpEnd.TheVariants as pump
 use Rattle.mover_rounds.proofs.Prefixes.{prefix_self, prefix_trans}

@@ -1,5 +1,6 @@
 pub mod Prefixes
 pub mod Ending
+pub mod Exits
 pub mod Working
 pub mod Rounding
 pub mod Pumping

@@ -1,8 +1,7 @@
 -- What a step of an owned book tells of its owner.
-use Rattle.std.proofs.Common.{◌≡◌, ℕ, ◌+◌, ◌-◌, ◌^◌, ◌≤◌, ◌<◌, min, Bool, true, false, List, [], ◌∷◌, ◌++◌, cond, refl, ap, sym, ◌∙◌, append_assoc, append-nil, arith}
+use Rattle.std.proofs.Common.{◌≡◌, ℕ, ◌≤◌, Bool, true, false, List, [], ◌∷◌, ◌++◌, cond, ap, sym, ◌∙◌, append_assoc, append-nil, arith}
 use Rattle.std.specs.Prelude.{Option, Some, None, Result, Ok, Err, OnOk, OnErr, IfOk, IfErr}
 use Rattle.std.specs.List.{list_any}
-use Rattle.cc_base.specs.Outside.{HasRisen}
 use Rattle.cluster_json.specs.File.{Meaning}
 use Rattle.exec_terms.specs.Machine.{next_work}
 use Rattle.exec_terms.specs.declared.replies.Given.{Given}
@@ -18,7 +17,7 @@ use Rattle.core_terms.specs.declared.faults.StepFault.{StepFault}
 use Rattle.core_terms.specs.declared.faults.StepFault.TheVariants.{AdminFault, Memory}
 use Rattle.core_terms.specs.declared.replies.Reply.{Reply}
 use Rattle.control_core.specs.Books.{BookView, IsStepFault, one_more, state_of}
-use Rattle.mover_rounds.specs.Asked.{Entry, Known, HasAsked, IsUnasked, IsAskFault, core_rules, entries_from}
+use Rattle.mover_rounds.specs.Asked.{Entry, HasAsked, IsUnasked, IsAskFault, core_rules, entries_from}
 use Rattle.mover_rounds.specs.Jobs.{Fits, FitsJob, FitsWork}
 use Rattle.mover_rounds.specs.Owned.{IsSince, known_by_owner}
 

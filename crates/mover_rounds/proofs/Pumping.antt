@@ -1,18 +1,14 @@
 -- Rounds, one after another.
-use Rattle.std.proofs.Common.{◌≡◌, ℕ, ◌+◌, ◌-◌, ◌^◌, ◌≤◌, ◌<◌, min, Bool, true, false, List, [], ◌∷◌, ◌++◌, length, Option, Some, None, Result, Ok, Err, refl, ap, sym, ◌∙◌, subst, append-nil, append_assoc, zero-add, add_assoc, arith, inl, inr, ◌⊎◌, length-append}
+use Rattle.std.proofs.Common.{◌≡◌, ℕ, ◌+◌, ◌<◌, Bool, true, List, [], ◌∷◌, ◌++◌, Option, Some, None, Ok, Err, refl, ap, sym, ◌∙◌, subst, append-nil, append_assoc, zero-add, add_assoc, arith, inl, inr, length-append}
 use Rattle.std.specs.List.{AllByRecursion}
-use mathlib.Core.List.{IsPrefix}
 use Rattle.cluster_gate.specs.declared.copier.ChunkCopy.{ChunkCopy}
-use Rattle.cc_base.specs.Outside.{HasRisen}
 use Rattle.core_terms.specs.declared.events.Event.{Event}
 use Rattle.core_terms.specs.declared.replies.Reply.{Reply}
 use Rattle.core_terms.specs.declared.replies.Reason.{Reason}
 use Rattle.mover_rounds.specs.Asked.{Rules, Entry, Known, reply_to, through}
-use Rattle.mover_rounds.specs.Rounds.{Standing, done, undone, idle, look, IsEnd, IsWorkRound, IsPlanRound, IsLookedRound, IsRound}
-use Rattle.mover_rounds.specs.Made.{Copies, copy_of, copies_of, failed_in, failures_of, with_copies, HasRisenBy, HasMade, IsRoundMade, IsBroken, IsMade, HasRound, joined, AreDone, AreRounds, IsPumped, HasPumped, HasDone, IsCause}
+use Rattle.mover_rounds.specs.Rounds.{done, idle, IsEnd, IsWorkRound, IsPlanRound, IsLookedRound, IsRound}
+use Rattle.mover_rounds.specs.Made.{Copies, copy_of, copies_of, failed_in, failures_of, with_copies, HasRisenBy, HasMade, IsRoundMade, IsBroken, IsMade, HasRound, joined, AreDone, AreRounds, IsPumped, HasPumped, HasDone}
 use Rattle.core_terms.specs.declared.faults.StepFault.{StepFault}
-use Rattle.core_terms.specs.declared.faults.StepFault.TheVariants.{AdminFault, Memory}
-use Rattle.mover_rounds.specs.declared.round.Found.{Found}
 use Rattle.mover_rounds.specs.declared.round.Found.TheVariants.{Planned, Worked, Idle}
 use Rattle.core_terms.specs.declared.pumps.PumpEnd.TheVariants as pump
 use Rattle.mover_rounds.proofs.Prefixes.{prefix_trans}

@@ -1,6 +1,5 @@
 -- Rounds, from their parts.
-use Rattle.std.proofs.Common.{◌≡◌, ℕ, ◌+◌, ◌≤◌, Bool, true, false, List, [], ◌∷◌, ◌++◌, Option, Result, Ok, Err, refl, ap, sym, ◌∙◌, subst, append-nil, append_assoc, zero-add, arith, inl, inr, ◌⊎◌}
-use mathlib.Core.List.{IsPrefix}
+use Rattle.std.proofs.Common.{◌≡◌, ℕ, ◌+◌, Bool, List, [], ◌∷◌, ◌++◌, Result, Ok, Err, refl, ap, sym, ◌∙◌, subst, append-nil, append_assoc, zero-add, arith, inl, inr, ◌⊎◌}
 use Rattle.core_terms.specs.Problem.{ProblemView}
 use Rattle.exec_terms.specs.declared.replies.Given.{Given}
 use Rattle.cluster_gate.specs.declared.copier.ChunkCopy.{ChunkCopy}
@@ -8,10 +7,10 @@ use Rattle.core_terms.specs.declared.events.Event.{Event}
 use Rattle.core_terms.specs.declared.events.Event.TheVariants as event
 use Rattle.core_terms.specs.declared.replies.Reply.{Reply}
 use Rattle.core_terms.specs.declared.replies.Reply.TheVariants as reply
-use Rattle.mover_rounds.specs.Asked.{Rules, Entry, Known, HasAsked, IsUnasked, reply_to, through}
-use Rattle.mover_rounds.specs.Rounds.{Standing, done, undone, idle, look, IsEnd, IsWork, IsJob, IsNoJob, IsWorkRound, IsPlanRound, IsLookedRound, IsRound}
-use Rattle.core_terms.specs.Ends.{Ends, GivesBack}
-use Rattle.mover_rounds.specs.Made.{Copies, copy_of, copies_of, failed_in, failures_of, with_copies, HasRisenBy, HasEnded, HasWorked, IsLostCopy, LostIn, HasMade, IsRoundMade, IsBroken, IsTaken, IsMade, HasTaken, HasRound, until}
+use Rattle.mover_rounds.specs.Asked.{Rules, Entry, Known, HasAsked, IsUnasked, reply_to}
+use Rattle.mover_rounds.specs.Rounds.{Standing, done, undone, idle, look, IsEnd, IsWork, IsJob, IsNoJob, IsWorkRound, IsPlanRound, IsRound}
+use Rattle.core_terms.specs.Ends.{Ends}
+use Rattle.mover_rounds.specs.Made.{Copies, copy_of, copies_of, failed_in, failures_of, HasRisenBy, HasEnded, HasWorked, IsLostCopy, LostIn, HasMade, IsRoundMade, IsBroken, IsTaken, IsMade, HasTaken, HasRound, until}
 use Rattle.core_terms.specs.declared.faults.StepFault.{StepFault}
 use Rattle.mover_rounds.specs.declared.round.Found.{Found}
 use Rattle.mover_rounds.specs.declared.round.Found.TheVariants.{Planned, Worked, Idle}

@@ -1,6 +1,5 @@
 -- The end of work, with the copier's copies.
-use Rattle.std.proofs.Common.{◌≡◌, ℕ, ◌+◌, ◌-◌, ◌^◌, ◌≤◌, min, Bool, true, false, List, [], ◌∷◌, ◌++◌, Option, Some, None, Result, Ok, Err, refl, ap, sym, ◌∙◌, subst, IfOk, IfErr, append-nil, arith, inl, inr}
-use mathlib.Core.List.{IsPrefix}
+use Rattle.std.proofs.Common.{◌≡◌, ℕ, ◌+◌, ◌≤◌, List, [], ◌∷◌, ◌++◌, Option, Some, None, Result, Ok, Err, refl, ap, sym, ◌∙◌, subst, IfOk, IfErr, append-nil, arith, inl, inr}
 use Rattle.exec_terms.specs.declared.work.Work.TheVariants as work
 use Rattle.exec_terms.specs.declared.replies.Given.{Given}
 use Rattle.cluster_gate.specs.declared.copier.ChunkCopy.{ChunkCopy}
@@ -11,9 +10,9 @@ use Rattle.core_terms.specs.declared.events.Event.TheVariants as event
 use Rattle.core_terms.specs.declared.replies.Reply.{Reply}
 use Rattle.core_terms.specs.declared.replies.Reply.TheVariants as reply
 use Rattle.mover_rounds.specs.Asked.{Rules, Entry, Known}
-use Rattle.mover_rounds.specs.Rounds.{Standing, done, undone, Unsure, IsEnd}
+use Rattle.mover_rounds.specs.Rounds.{done, undone, IsEnd}
 use Rattle.core_terms.specs.Ends.{Works, Ends, GivesBack}
-use Rattle.mover_rounds.specs.Made.{Copies, copy_of, copies_of, failed_in, failures_of, with_copies, HasRisenBy, Added, IsReturned, Returned, Failed, HasEnded, HasWorked, IsLost, standing_of}
+use Rattle.mover_rounds.specs.Made.{Copies, copy_of, copies_of, failed_in, failures_of, with_copies, HasRisenBy, Added, IsReturned, Returned, Failed, HasEnded, HasWorked, standing_of}
 use Rattle.core_terms.specs.declared.faults.StepFault.{StepFault}
 
 pub ended_done : (v w : Known) (e : Event) (what : Reply) → Added v w e → Ends what e → HasEnded v w what done

@@ -5,7 +5,7 @@ use Rattle.core_laws.specs.Alone.{IsDone, IsQuiet, active_jobs}
 use Rattle.core_terms.specs.State.{Desk}
 use Rattle.core_terms.specs.declared.events.Event.{Event}
 use Rattle.core_terms.specs.declared.faults.StepFault.{StepFault}
-use Rattle.core_terms.specs.declared.faults.StepFault.TheVariants.{AdminFault, Memory}
+use Rattle.core_terms.specs.declared.faults.StepFault.TheVariants.{AdminFault}
 use Rattle.mover_rounds.specs.Asked.{Rules, Entry, Known}
 use Rattle.mover_rounds.specs.Rounds.{IsLookedRound, IsRound, idle}
 use Rattle.mover_rounds.specs.Made.{AreDone, AreRounds, Copies, HasMade, IsBroken, IsCause, IsRoundMade}

@@ -1,5 +1,5 @@
 -- What the parts of a round add to the own entries, to a copier's copies and to its faults.
-use Rattle.std.specs.Prelude.{◌≡◌, ℕ, ◌+◌, ◌-◌, ◌^◌, ◌≤◌, ◌<◌, Bool, true, false, min, List, [], ◌∷◌, ◌++◌, length, Option, option_map, Result, Ok, Err, ◌⊎◌}
+use Rattle.std.specs.Prelude.{◌≡◌, ℕ, ◌+◌, ◌-◌, ◌^◌, ◌≤◌, ◌<◌, true, false, min, List, [], ◌∷◌, ◌++◌, length, Option, option_map, Result, Ok, Err, ◌⊎◌}
 use Rattle.std.specs.List.{AllByRecursion}
 use mathlib.Core.List.{IsPrefix}
 use Rattle.cc_base.specs.Outside.{HasRisen}
@@ -10,11 +10,9 @@ use Rattle.core_terms.specs.declared.events.Event.TheVariants as event
 use Rattle.core_terms.specs.declared.replies.Reply.{Reply}
 use Rattle.mover_rounds.specs.Asked.{Rules, Entry, Known}
 use Rattle.mover_rounds.specs.Rounds.{Standing, done, undone, idle, look, Unsure, IsEnd, IsRound, IsWorkRound, IsPlanRound, IsLookedRound}
-use Rattle.core_terms.specs.Ends.{Ends, GivesBack}
 use Rattle.cluster_gate.specs.Receipts.{ReceiptView}
 use Rattle.exec_terms.specs.declared.replies.Given.{Given}
 use Rattle.core_terms.specs.declared.replies.Reply.TheVariants as reply
-use Rattle.core_terms.specs.declared.replies.Reason.{Reason}
 use Rattle.mover_rounds.specs.Asked.{reply_to, through}
 use Rattle.core_terms.specs.Ends.{Works}
 use Rattle.mover_rounds.specs.declared.round.Found.{Found}

@@ -1,6 +1,5 @@
 -- What the owner of a book knows.
 use Rattle.std.specs.Prelude.{◌≡◌, ℕ, ◌≤◌, ◌<◌, true, []}
-use mathlib.Core.List.{IsPrefix}
 use Rattle.cc_base.specs.Outside.{HasRisen}
 use Rattle.control_core.specs.Books.{BookView}
 use Rattle.mover_rounds.specs.Asked.{Known, core_rules, entries_from}

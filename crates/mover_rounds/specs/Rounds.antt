@@ -1,5 +1,5 @@
 -- Rounds: what a planner or a mover does at a time, as own entries.
-use Rattle.std.specs.Prelude.{◌≡◌, ℕ, Bool, true, false, List, [], ◌∷◌, ◌++◌, ◌⊎◌}
+use Rattle.std.specs.Prelude.{◌≡◌, false, List, [], ◌∷◌, ◌⊎◌}
 use mathlib.Core.List.{IsPrefix}
 use Rattle.core_terms.specs.Ends.{Ends, GivesBack}
 use Rattle.core_terms.specs.declared.events.Event.{Event}

@@ -1,5 +1,5 @@
 -- The same book after a while: laws of it.
-use Rattle.std.proofs.Common.{ℕ, ◌<◌, refl, ◌∙◌, arith, inl, inr}
+use Rattle.std.proofs.Common.{ℕ, refl, ◌∙◌, arith, inl, inr}
 use Rattle.std.proofs.lemmas.Bool.{cases_lt}
 use Rattle.control_core.specs.Books.{BookView}
 use Rattle.mover_rounds.specs.Owned.{IsSince}

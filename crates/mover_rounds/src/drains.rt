@@ -46,11 +46,10 @@ fn work<A: Admin, K: Copier, R: Threads + Sync>(
     every_round();
     loop {
         let _input = book.journal();
-        match one_round(rt, alloc, book, copier) {
-            Ok(Found::Worked) => {}
-            Ok(Found::Planned) => return Ok(Found::Planned),
-            Ok(Found::Idle(why, closing)) => return Ok(Found::Idle(why, closing)),
-            Err(fault) => return Err(fault),
+        let found = one_round(rt, alloc, book, copier)?;
+        match found {
+            Found::Worked => {}
+            Found::Planned | Found::Idle(..) => return Ok(found),
         }
     }
 }

@@ -29,13 +29,12 @@ pub fn take_work<X: Asker, K: Copier>(asker: &mut X, copier: &mut K) -> Result<F
     ensures cause { IfErr result (IsCause (X.known asker.old) (X.known asker.new)) }
     ensures kept { OnOk result ((X.known asker.new).blamed ≡ (X.known asker.old).blamed) }
 {
-    match ask_work(asker) {
-        Ok(Ok(given)) => match do_work(asker, copier, given) {
-            Ok(()) => Ok(Found::Worked),
-            Err(fault) => Err(fault),
-        },
-        Ok(Err(none)) => Ok(Found::Idle(none.why, none.closing)),
-        Err(fault) => Err(fault),
+    match ask_work(asker)? {
+        Ok(given) => {
+            do_work(asker, copier, given)?;
+            Ok(Found::Worked)
+        }
+        Err(none) => Ok(Found::Idle(none.why, none.closing)),
     }
 }
 
@@ -52,12 +51,11 @@ pub fn one_round<X: Asker, K: Copier, R: Threads + Sync>(
     ensures cause { IfErr result (IsCause (X.known asker.old) (X.known asker.new)) }
     ensures kept { OnOk result ((X.known asker.new).blamed ≡ (X.known asker.old).blamed) }
 {
-    match ask_job(asker) {
-        Ok(Ok(job)) => match do_job(rt, alloc, asker, &job) {
-            Ok(()) => Ok(Found::Planned),
-            Err(fault) => Err(fault),
-        },
-        Ok(Err(_)) => take_work(asker, copier),
-        Err(fault) => Err(fault),
+    match ask_job(asker)? {
+        Ok(job) => {
+            do_job(rt, alloc, asker, &job)?;
+            Ok(Found::Planned)
+        }
+        Err(_) => take_work(asker, copier),
     }
 }

@@ -1,5 +1,5 @@
 -- Steps, from their parts.
-use Rattle.std.proofs.Common.{◌≡◌, ℕ, ◌+◌, Bool, true, false, List, [], ◌∷◌, ◌++◌, Result, Ok, Err, refl, ap, sym, ◌∙◌, subst, append-nil, append_assoc, zero-add, arith, inl, inr}
+use Rattle.std.proofs.Common.{◌≡◌, ℕ, ◌+◌, Bool, true, false, List, [], ◌∷◌, ◌++◌, Result, Ok, Err, refl, ap, sym, ◌∙◌, subst, append-nil, append_assoc, zero-add, arith, inl, inr, ◌⊎◌}
 use mathlib.Core.List.{IsPrefix}
 use Rattle.cluster_gate.specs.declared.copier.ChunkCopy.{ChunkCopy}
 use Rattle.core_terms.specs.Problem.{ProblemView}
@@ -95,11 +95,15 @@ look_round r seen b (x ∷ y ∷ ys) h = absurd h
 pub meanwhile_done : (v w : Known) (k : Copies) (b : Bool) → HasPlanStep v w k (Ok Done) → HasBehind v w k why.Planning b (Ok Done)
 meanwhile_done v w k b h = h
 
-pub meanwhile_idle : (v w : Known) (k : Copies) (b : Bool) → HasPlanStep v w k (Ok Idle) → HasBehind v w k why.Planning b (Ok Idle)
+meanwhile_idle : (v w : Known) (k : Copies) (b : Bool) → HasPlanStep v w k (Ok Idle) → HasBehind v w k why.Planning b (Ok Idle)
 meanwhile_idle v w k b h = made_weaker (PlanStep v.rules w.seen (Ok Idle)) (λ m c. IsBehindIdle v.rules w.seen why.Planning b (Ok Idle) m × (c ≡ copies_of m)) v w k k (λ m c p. (look_round v.rules w.seen false m p.0, p.1)) h
 
-pub meanwhile_closed : (v w : Known) (k : Copies) (b : Bool) → HasPlanStep v w k (Ok Closed) → HasBehind v w k why.Planning b (Ok Idle)
+meanwhile_closed : (v w : Known) (k : Copies) (b : Bool) → HasPlanStep v w k (Ok Closed) → HasBehind v w k why.Planning b (Ok Idle)
 meanwhile_closed v w k b h = made_weaker (PlanStep v.rules w.seen (Ok Closed)) (λ m c. IsBehindIdle v.rules w.seen why.Planning b (Ok Idle) m × (c ≡ copies_of m)) v w k k (λ m c p. (look_round v.rules w.seen true m p.0, p.1)) h
+
+pub meanwhile_rests : (v w : Known) (k : Copies) (b : Bool) (step : Step) → (step ≡ Idle) ⊎ (step ≡ Closed) → HasPlanStep v w k (Ok step) → HasBehind v w k why.Planning b (Ok Idle)
+meanwhile_rests v w k b step (inl is) h = meanwhile_idle v w k b (rw is at h)
+meanwhile_rests v w k b step (inr is) h = meanwhile_closed v w k b (rw is at h)
 
 pub meanwhile_broken : (v w : Known) (k : Copies) (b : Bool) (f : StepFault) → HasPlanStep v w k (Err f) → HasBehind v w k why.Planning b (Err f)
 meanwhile_broken v w k b f h = h

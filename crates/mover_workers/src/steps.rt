@@ -38,13 +38,12 @@ pub(crate) fn plan_step<X: Asker, R: Threads + Sync>(
     ensures cause { IfErr result (IsCause (X.known asker.old) (X.known asker.new)) }
     ensures kept { OnOk result ((X.known asker.new).blamed ≡ (X.known asker.old).blamed) }
 {
-    match ask_job(asker) {
-        Ok(Ok(job)) => match do_job(rt, alloc, asker, &job) {
-            Ok(()) => Ok(Step::Done),
-            Err(fault) => Err(fault),
-        },
-        Ok(Err(closing)) => Ok(look(closing)),
-        Err(fault) => Err(fault),
+    match ask_job(asker)? {
+        Ok(job) => {
+            do_job(rt, alloc, asker, &job)?;
+            Ok(Step::Done)
+        }
+        Err(closing) => Ok(look(closing)),
     }
 }
 
@@ -60,11 +59,9 @@ fn plan_meanwhile<X: Asker, R: Threads + Sync>(
     ensures cause { IfErr result (IsCause (X.known asker.old) (X.known asker.new)) }
     ensures kept { OnOk result ((X.known asker.new).blamed ≡ (X.known asker.old).blamed) }
 {
-    match plan_step(rt, alloc, asker) {
-        Ok(Step::Done) => Ok(Step::Done),
-        Ok(Step::Idle) => Ok(Step::Idle),
-        Ok(Step::Closed) => Ok(Step::Idle),
-        Err(fault) => Err(fault),
+    match plan_step(rt, alloc, asker)? {
+        Step::Done => Ok(Step::Done),
+        Step::Idle | Step::Closed => Ok(Step::Idle),
     }
 }
 
@@ -102,12 +99,11 @@ pub(crate) fn move_step<X: Asker, K: Copier, R: Threads + Sync>(
     ensures cause { IfErr result (IsCause (X.known asker.old) (X.known asker.new)) }
     ensures kept { OnOk result ((X.known asker.new).blamed ≡ (X.known asker.old).blamed) }
 {
-    match ask_work(asker) {
-        Ok(Ok(given)) => match do_work(asker, copier, given) {
-            Ok(()) => Ok(Step::Done),
-            Err(fault) => Err(fault),
-        },
-        Ok(Err(none)) => idle_step(rt, alloc, asker, none),
-        Err(fault) => Err(fault),
+    match ask_work(asker)? {
+        Ok(given) => {
+            do_work(asker, copier, given)?;
+            Ok(Step::Done)
+        }
+        Err(none) => idle_step(rt, alloc, asker, none),
     }
 }

@@ -1,5 +1,5 @@
 -- What `parse` reads of digits.
-use Rattle.std.proofs.Common.{◌≡◌, ℕ, true, List, ◌<◌, ◌≤◌, ◌^◌, length, arith, rules}
+use Rattle.std.proofs.Common.{◌≡◌, true, rules}
 use Rattle.std.specs.List.{list_all}
 use Rattle.std.proofs.lemmas.Str.Parse.{IsNumeralModel, numerals_by_fold}
 use Rattle.plan_terms.specs.Digits.{is_digit, number_after}

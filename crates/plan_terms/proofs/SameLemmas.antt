@@ -1,5 +1,5 @@
 -- Lists put the same on the brokers of clusters with the same ids, topics and loads.
-use Rattle.std.proofs.Common.{◌≡◌, ◌∙◌, ℕ, ◌+◌, ◌*◌, ◌&&◌, Bool, cond, eqb, List, [], ◌∷◌, length, map, get_or, refl, sym, ap, arith, suc}
+use Rattle.std.proofs.Common.{◌≡◌, ◌∙◌, ℕ, ◌+◌, ◌*◌, ◌&&◌, cond, eqb, List, [], ◌∷◌, length, map, refl, sym, ap, suc}
 use Rattle.std.specs.Prelude.{slice_index, bytes_eq}
 use Rattle.std.specs.List.{count_by}
 use Rattle.plan_terms.specs.Belongs.{SameLoads}

@@ -11,10 +11,7 @@ fn cut(text: &str) -> Option<(&str, &str)>
         (λ x. pieces text.now ≡ x.0.now ∷ pieces x.1.now) }
     ensures shorter { IfSome result (λ x. length x.1.now < length text.now) }
 {
-    match text.split_once(',') {
-        Some((piece, behind)) => Some((piece, behind)),
-        None => None,
-    }
+    text.split_once(',')
 }
 
 /// The pieces between the commas of a text, one more than it has commas.

@@ -54,8 +54,8 @@ fn reassignment_value(alloc: Global, entries: Vec<Value>) -> Result<Value, Alloc
 }
 
 /// The reassignment JSON that asks for the proposals' new lists, as
-/// `kafka-reassign-partitions --reassignment-json-file` reads it. Keys stand in the order of their bytes, with no white space
-/// between.
+/// `kafka-reassign-partitions --reassignment-json-file` reads it. Keys stand in the order of their
+/// bytes, with no white space between.
 pub fn reassignment_text(
     alloc: Global,
     case: &Case,

@@ -20,10 +20,7 @@ pub type RackAwareGoal = PartitionGoal<RackRule>;
 fn rack_at(case: &Case, id: u32) -> Option<&RackName>
     ensures { option_map (λ r. r.now) result ≡ rack_of case.now id }
 {
-    match case.broker(id) {
-        Some(broker) => broker.rack.as_ref(),
-        None => None,
-    }
+    case.broker(id)?.rack.as_ref()
 }
 
 fn are_equal(one: Option<&RackName>, other: Option<&RackName>) -> bool

@@ -110,8 +110,5 @@ fn may_go_on(task: &Task) -> bool
 fn number_of(lease: Option<Lease>) -> Option<u64>
     ensures { result ≡ number_of lease }
 {
-    match lease {
-        None => None,
-        Some(lease) => Some(lease.number),
-    }
+    lease.map(|lease| lease.number)
 }

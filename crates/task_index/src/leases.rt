@@ -49,10 +49,8 @@ impl LeaseTable {
     pub fn holder(&self, number: u64) -> Option<usize>
         ensures { result ≡ position (is_number number) self.now }
     {
-        match place_of(self.numbers.as_slice(), number) {
-            None => None,
-            Some(place) => Some(self.holders[place] as usize),
-        }
+        let place = place_of(self.numbers.as_slice(), number)?;
+        Some(self.holders[place] as usize)
     }
 
     /// The task has this lease, or none.

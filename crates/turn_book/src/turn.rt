@@ -102,13 +102,9 @@ impl<B: Journaled> Turn<B> {
             pass.new event) }
     {
         pass.stirs = self.table.stirs(&mut pass.place);
-        match self.table.act(rt, &mut pass.place, event) {
-            Ok(reply) => {
-                self.table.stir_if(&mut pass.place, B::stirs(&reply));
-                Ok(reply)
-            }
-            Err(refused) => Err(refused),
-        }
+        let reply = self.table.act(rt, &mut pass.place, event)?;
+        self.table.stir_if(&mut pass.place, B::stirs(&reply));
+        Ok(reply)
     }
 
     /// The length of the history, which the pass has then seen.

@@ -2,7 +2,7 @@ use Rattle.std.proofs.Common.{◌≡◌, ◌∙◌, ap₂, false, ◌||◌, code
 use Rattle.std.proofs.lemmas.Result.{IfOk-weaker}
 use Rattle.clap.specs.Words.{app_of, new_app, with_rule}
 use Rattle.clap.specs.declared.builder.command.Command.TheViews.{out-Command}
-use Rattle.command_words.specs.Arguments.{file_rule, movers_rule, planners_rule}
+use Rattle.command_words.specs.Arguments.{file_rule, movers_rule}
 use Rattle.command_words.proofs.builders.session_command.Goals as goal
 
 pub returns : goal.returns

@@ -2,7 +2,7 @@ use Rattle.std.proofs.Common.{◌≡◌, ◌∙◌, ap, ap₂, true, codes}
 use Rattle.std.proofs.lemmas.Result.{IfOk-weaker}
 use Rattle.clap.specs.Simple.{app_of_fields, on_top}
 use Rattle.clap.specs.Words.{App, app_of, new_app, with_subcommand}
-use Rattle.command_words.specs.Arguments.{apply_app, check_app, gen_app, plan_app, program, serve_app, session_app}
+use Rattle.command_words.specs.Arguments.{apply_app, check_app, gen_app, plan_app, program, session_app}
 use Rattle.command_words.proofs.builders.whole_command.Goals as goal
 
 abbrev nameless : App → App

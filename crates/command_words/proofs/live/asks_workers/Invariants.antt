@@ -1,4 +1,4 @@
-use Rattle.std.proofs.Common.{◌≡◌, ℕ, length, map, string_bytes}
+use Rattle.std.proofs.Common.{◌≡◌, length, map, string_bytes}
 use Rattle.command_words.specs.Live.{asks_workers}
 use Rattle.command_words.proofs.live.asks_workers.Given as goal
 

@@ -1,4 +1,4 @@
-use Rattle.std.proofs.Common.{◌≡◌, ◌∙◌, ap, sym, map, string_bytes, option_map}
+use Rattle.std.proofs.Common.{◌∙◌, ap, sym, map, string_bytes, option_map}
 use Rattle.command_words.proofs.Meanings.{meaning_taken, meaning_refused}
 use Rattle.command_words.specs.Meaning.{told}
 use Rattle.command_words.proofs.words.read_words.Goals as goal

@@ -1,4 +1,4 @@
-use Rattle.std.proofs.Common.{Ok, Err, ◌∙◌, arith, refl}
+use Rattle.std.proofs.Common.{◌∙◌, refl}
 use Rattle.core_terms.specs.declared.faults.StepFault.TheVariants.{AdminFault, Memory}
 use Rattle.mover_rounds.specs.Made.{copier_of}
 use Rattle.mover_rounds.specs.Owned.{known_by_owner}

@@ -1,4 +1,4 @@
-use Rattle.std.proofs.Common.{◌≡◌, ℕ, ◌≤◌}
+use Rattle.std.proofs.Common.{◌≡◌}
 use Rattle.control_core.specs.Books.{state_of}
 use Rattle.core_laws.specs.Alone.{IsQuiet, active_jobs}
 use Rattle.mover_rounds.specs.Drained.{AreSome}

@@ -1,4 +1,4 @@
-use Rattle.std.proofs.Common.{◌≡◌, ℕ, ◌≤◌}
+use Rattle.std.proofs.Common.{◌≡◌, ◌≤◌}
 use Rattle.control_core.specs.Books.{state_of}
 use Rattle.core_laws.specs.Alone.{IsQuiet, active_jobs}
 use Rattle.exec_terms.specs.Valid.{work_left}
@@ -8,8 +8,8 @@ use Rattle.mover_rounds.specs.Owned.{IsSince, known_by_owner}
 use Rattle.mover_rounds.specs.Asked.{core_rules}
 use Rattle.mover_rounds.proofs.drains.work.Given as goal
 
-abbrev pub invariant-loop-why : goal.invariant-loop-why
-invariant-loop-why g l = record {
+abbrev pub invariant-loop-found : goal.invariant-loop-found
+invariant-loop-found g l = record {
   since : IsSince g.A.Admin.faults l.initial.book l.book;
   did : HasMade (AreSome (core_rules l.initial.book.file) l.book.journal) (known_by_owner l.initial.book) (known_by_owner l.book) (copier_of g.K.Copier.copies g.K.Copier.faults l.initial.copier) (copier_of g.K.Copier.copies g.K.Copier.faults l.copier);
   jobs : active_jobs (state_of l.book).desk ≤ active_jobs (state_of l.initial.book).desk;
@@ -17,5 +17,5 @@ invariant-loop-why g l = record {
   kept : l.book.failures ≡ l.initial.book.failures;
 }
 
-abbrev pub decreases-loop-why : goal.decreases-loop-why
-decreases-loop-why g l = work_left (state_of l.book).desk.exec
+abbrev pub decreases-loop-found : goal.decreases-loop-found
+decreases-loop-found g l = work_left (state_of l.book).desk.exec

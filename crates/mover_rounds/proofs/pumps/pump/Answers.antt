@@ -1,7 +1,6 @@
-use Rattle.std.proofs.Common.{Ok, ◌∙◌, arith, refl}
+use Rattle.std.proofs.Common.{◌∙◌, arith, refl}
 use Rattle.core_terms.specs.declared.faults.StepFault.TheVariants.{AdminFault, Memory}
 use Rattle.mover_rounds.specs.Made.{copier_of}
-use Rattle.mover_rounds.specs.declared.round.Found.TheVariants.{Planned, Worked}
 use Rattle.mover_rounds.proofs.Behind.{none_done}
 use Rattle.mover_rounds.proofs.Ending.{cause_earlier}
 use Rattle.mover_rounds.proofs.Pumping.{planned_more, worked_more, pumped_idle, pumped_fault, pumped_memory}

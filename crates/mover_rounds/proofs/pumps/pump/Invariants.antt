@@ -1,4 +1,4 @@
-use Rattle.std.proofs.Common.{◌≡◌, ℕ, ◌-◌, ◌≤◌}
+use Rattle.std.proofs.Common.{◌≡◌, ◌-◌, ◌≤◌}
 use Rattle.mover_rounds.specs.Made.{HasDone, copier_of}
 use Rattle.mover_rounds.proofs.pumps.pump.Given as goal
 

@@ -1,6 +1,6 @@
-use Rattle.std.proofs.Common.{refl, arith}
+use Rattle.std.proofs.Common.{refl}
 use Rattle.mover_rounds.specs.Made.{copier_of}
-use Rattle.mover_rounds.proofs.Working.{worked_plain, worked_still}
+use Rattle.mover_rounds.proofs.Working.{worked_still}
 use Rattle.mover_rounds.proofs.work.do_work.Goals as goal
 
 pub returns-in-Commit-clause-worked : goal.returns-in-Commit-clause-worked
