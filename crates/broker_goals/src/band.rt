@@ -26,9 +26,11 @@ pub trait Band {
 
     /// The bounds of one broker, where all brokers carry `all` together.
     fn edges(&self, case: &Case, all: u128, broker: &Broker) -> Edges
+        // What it is asked of.
         requires made { made_for self.now case.now }
         requires all { all < 2 ^ 49 }
         requires cap { SmallCap broker.now }
+        // The bounds of the definition, at most 2^114.
         ensures scale { result.scale ≡ (bounds self.now case.now).scale }
         ensures upper { result.upper ≡ (bounds self.now case.now).upper all broker.now }
         ensures lower { result.lower ≡ (bounds self.now case.now).lower all broker.now }

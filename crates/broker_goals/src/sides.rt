@@ -81,15 +81,18 @@ fn side_of<A: Amount, B: Band>(
     id: u32,
     change: Change,
 ) -> (u128, u128)
+    // The amount, the band and the book are of the case.
     requires amount { A.made_for kind.now case.now }
     requires band { B.made_for band.now case.now }
     requires belongs { IsBookOf case.now book.now }
+    // What all brokers have together, and what the broker has after the change.
     requires all { all ≡ total (A.weights kind.now) case.now.parts book.now.lists }
     requires few { all < 2 ^ 49 }
     requires had { change.given
         ≤ quantity (A.weights kind.now) case.now.parts id book.now.lists + change.got }
     requires small { quantity (A.weights kind.now) case.now.parts id book.now.lists + change.got -
         change.given < 2 ^ 49 }
+    // The excesses of the definition, each at most 2^111.
     ensures before { result.0
         ≡ excess_with (A.weights kind.now) (B.bounds band.now case.now) case.now book.now.lists id
         (quantity (A.weights kind.now) case.now.parts id book.now.lists) }
@@ -122,10 +125,12 @@ pub fn sides_of<A: Amount, B: Band>(
     book: &LoadBook,
     action: Action,
 ) -> Sides
+    // The amount, the band and the book are of the case, and the action fits.
     requires amount { A.made_for kind.now case.now }
     requires band { B.made_for band.now case.now }
     requires belongs { IsBookOf case.now book.now }
     requires applies { IsTrue (fits book.now.lists action) }
+    // The excesses of the definition, each at most 2^111.
     ensures value { result
         ≡ sides (A.weights kind.now) (B.bounds band.now case.now) case.now book.now.lists action }
     ensures giver { result.giver ≤ 2 ^ 111 }

@@ -124,12 +124,15 @@ fn row_at<G: Goal>(
     wholes: &[u128],
     broker: usize,
 ) -> Result<Row, Memory>
+    // The goals and the book are of the case.
     requires made { All (λ g. G.made_for g case.now) earlier.now }
     requires made_goal { G.made_for goal.now case.now }
     requires belongs { IsBookOf case.now book.now }
+    // What all brokers have together, and the broker.
     requires wholes { wholes.now
         ≡ map (λ g. look_whole (G.weighs g) case.now.parts book.now.lists) earlier.now }
     requires broker { broker < length case.now.brokers }
+    // The row of this broker.
     ensures id { IfOk result (λ r. r.id ≡ id_at case.now.brokers broker) }
     ensures row { IfOk result (IsRowFor G.Goal case.now book.now.lists earlier.now goal.now) }
 {
@@ -176,9 +179,11 @@ fn row_again<G: Goal>(
     row: &Row,
     broker: usize,
 ) -> Result<Row, Memory>
+    // The goals and the book are of the case.
     requires made { All (λ g. G.made_for g case.now) earlier.now }
     requires made_goal { G.made_for goal.now case.now }
     requires belongs { IsBookOf case.now book.now }
+    // What all brokers have together, the broker, and its row before.
     requires wholes { wholes.now
         ≡ map (λ g. look_whole (G.weighs g) case.now.parts book.now.lists) earlier.now }
     requires broker { broker < length case.now.brokers }
@@ -186,6 +191,7 @@ fn row_again<G: Goal>(
     requires rooms { (row.now.id ≡ scan.now.giver → ⊥) → (row.now.id ≡ scan.now.taker → ⊥)
         → row.now.rooms.items
         ≡ rooms_for G.Goal case.now book.now.lists row.now.id earlier.now }
+    // The row of this broker.
     ensures id { IfOk result (λ r. r.id ≡ id_at case.now.brokers broker) }
     ensures row { IfOk result (IsRowFor G.Goal case.now book.now.lists earlier.now goal.now) }
 {

@@ -25,14 +25,17 @@ fn lead_serves<G: Goal>(
     source: &Row,
     to: u32,
 ) -> bool
+    // The goals and the book are of the case.
     requires made { All (λ g. G.made_for g case.now) earlier.now }
     requires made_goal { G.made_for goal.now case.now }
     requires belongs { IsBookOf case.now book.now }
+    // The scan is of these lists, and the source leads the partition.
     requires scan { IsScanFor G.Goal case.now book.now.lists earlier.now goal.now scan.now }
     requires part { part < length case.now.parts }
     requires first { leads (list_of book.now.lists part) source.now.id ≡ true }
     requires source { IsRowFor G.Goal case.now book.now.lists earlier.now goal.now source.now }
     requires known { IsTrue (is_known case.now to) }
+    // What the answer says.
     ensures { IsTrue result
         ↔ StepFor G.Goal case.now book.now.lists earlier.now goal.now (Action.Lead part to) }
 {
@@ -66,13 +69,16 @@ fn some_lead_serves<G: Goal>(
     part: u32,
     source: &Row,
 ) -> bool
+    // The goals and the book are of the case.
     requires made { All (λ g. G.made_for g case.now) earlier.now }
     requires made_goal { G.made_for goal.now case.now }
     requires belongs { IsBookOf case.now book.now }
+    // The scan is of these lists, and the source leads the partition.
     requires scan { IsScanFor G.Goal case.now book.now.lists earlier.now goal.now scan.now }
     requires part { part < length case.now.parts }
     requires first { leads (list_of book.now.lists part) source.now.id ≡ true }
     requires source { IsRowFor G.Goal case.now book.now.lists earlier.now goal.now source.now }
+    // What the answer says.
     ensures { result ≡ false
         → All
         (λ b. StepFor G.Goal case.now book.now.lists earlier.now goal.now (Action.Lead part b)
@@ -99,13 +105,16 @@ pub fn first_lead<G: Goal>(
     part: u32,
     source: &Row,
 ) -> Option<Action>
+    // The goals and the book are of the case.
     requires made { All (λ g. G.made_for g case.now) earlier.now }
     requires made_goal { G.made_for goal.now case.now }
     requires belongs { IsBookOf case.now book.now }
+    // The scan is of these lists, and the source leads the partition.
     requires scan { IsScanFor G.Goal case.now book.now.lists earlier.now goal.now scan.now }
     requires part { part < length case.now.parts }
     requires first { leads (list_of book.now.lists part) source.now.id ≡ true }
     requires source { IsRowFor G.Goal case.now book.now.lists earlier.now goal.now source.now }
+    // The first that serves, or none does.
     ensures { FindsFirst G.Goal case.now book.now.lists earlier.now goal.now
         (leads_of case.now.brokers part) result }
 {

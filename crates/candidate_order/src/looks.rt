@@ -201,13 +201,16 @@ pub fn weighed_accept<G: Goal>(
     givers: &[Room],
     takers: &[Room],
 ) -> bool
+    // The goals and the book are of the case, and the move fits.
     requires made { All (λ g. G.made_for g case.now) earlier.now }
     requires belongs { IsBookOf case.now book.now }
     requires applies { IsTrue (fits book.now.lists (Action.Move part from to)) }
+    // What is weighed, and the rooms on both sides.
     requires weights { weights.now
         ≡ weights_for G.Goal case.now book.now.lists part from earlier.now }
     requires givers { givers.now ≡ rooms_for G.Goal case.now book.now.lists from earlier.now }
     requires takers { takers.now ≡ rooms_for G.Goal case.now book.now.lists to earlier.now }
+    // Whether all of the goals accept it.
     ensures { IsTrue result
         ↔ All
         (λ g. IfSome (G.weighs g)

@@ -101,11 +101,14 @@ pub fn next_lessening<G: Goal + Sync, R: Threads + Sync>(
     earlier: &[G],
     goal: &G,
 ) -> Result<Option<Action>, Memory>
+    // The goals and the book are of the case.
     requires made { All (λ g. G.made_for g case.now) earlier.now }
     requires made_goal { G.made_for goal.now case.now }
     requires belongs { IsBookOf case.now book.now }
+    // The order is of these lists, and the scan is kept from the last ones.
     requires order { IsOrderOf case.now book.now.lists order.now }
     requires kept { IsKeptFor G.Goal case.now book.now.lists earlier.now scan.old }
+    // The next action, and the scan with it.
     ensures next { IfOk result
         (λ next. FindsNext G.Goal case.now book.now.lists earlier.now goal.now next) }
     ensures scan { IfOk result (λ next. IfSome next

@@ -37,12 +37,15 @@ fn first_move<G: Goal>(
     part: u32,
     source: &Row,
 ) -> Option<Action>
+    // The goals and the book are of the case.
     requires made { All (λ g. G.made_for g case.now) earlier.now }
     requires made_goal { G.made_for goal.now case.now }
     requires belongs { IsBookOf case.now book.now }
+    // The scan is of these lists, and so is the row of the source.
     requires scan { IsScanFor G.Goal case.now book.now.lists earlier.now goal.now scan.now }
     requires part { part < length case.now.parts }
     requires source { IsRowFor G.Goal case.now book.now.lists earlier.now goal.now source.now }
+    // The first that serves, or none does.
     ensures { FindsFirst G.Goal case.now book.now.lists earlier.now goal.now
         (candidates_at kind.Moves case.now book.now.lists source.now.id part) result }
 {
@@ -80,12 +83,15 @@ fn first_lead_from<G: Goal>(
     part: u32,
     source: &Row,
 ) -> Option<Action>
+    // The goals and the book are of the case.
     requires made { All (λ g. G.made_for g case.now) earlier.now }
     requires made_goal { G.made_for goal.now case.now }
     requires belongs { IsBookOf case.now book.now }
+    // The scan is of these lists, and so is the row of the source.
     requires scan { IsScanFor G.Goal case.now book.now.lists earlier.now goal.now scan.now }
     requires part { part < length case.now.parts }
     requires source { IsRowFor G.Goal case.now book.now.lists earlier.now goal.now source.now }
+    // The first that serves, or none does.
     ensures { FindsFirst G.Goal case.now book.now.lists earlier.now goal.now
         (candidates_at kind.Leads case.now book.now.lists source.now.id part) result }
 {
@@ -117,13 +123,16 @@ pub(crate) fn first_at<G: Goal>(
     part: u32,
     source: &Row,
 ) -> Option<Action>
+    // The goals and the book are of the case.
     requires made { All (λ g. G.made_for g case.now) earlier.now }
     requires made_goal { G.made_for goal.now case.now }
     requires belongs { IsBookOf case.now book.now }
+    // The order and the scan are of these lists, and so is the row of the source.
     requires order { IsOrderOf case.now book.now.lists order.now }
     requires scan { IsScanFor G.Goal case.now book.now.lists earlier.now goal.now scan.now }
     requires part { part < length case.now.parts }
     requires source { IsRowFor G.Goal case.now book.now.lists earlier.now goal.now source.now }
+    // The first that serves, or none does.
     ensures { FindsFirst G.Goal case.now book.now.lists earlier.now goal.now
         (candidates_at kind case.now book.now.lists source.now.id part) result }
 {
@@ -180,13 +189,16 @@ fn first_of<G: Goal + Sync, R: Threads + Sync>(
     source: &Row,
     replicas: &[u32],
 ) -> Option<Action>
+    // The goals and the book are of the case.
     requires made { All (λ g. G.made_for g case.now) earlier.now }
     requires made_goal { G.made_for goal.now case.now }
     requires belongs { IsBookOf case.now book.now }
+    // The order and the scan are of these lists, and so is the row of the source.
     requires order { IsOrderOf case.now book.now.lists order.now }
     requires scan { IsScanFor G.Goal case.now book.now.lists earlier.now goal.now scan.now }
     requires source { IsRowFor G.Goal case.now book.now.lists earlier.now goal.now source.now }
     requires within { All (λ p. p < length case.now.parts) replicas.now }
+    // The first that serves, or none does.
     ensures { FindsFirst G.Goal case.now book.now.lists earlier.now goal.now
         (flat_map (candidates_at kind case.now book.now.lists source.now.id) replicas.now) result }
 {

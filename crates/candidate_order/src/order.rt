@@ -126,11 +126,14 @@ impl Order {
         part: u32,
         weight: u64,
     )
+        // The row at this place is of the lists before.
         requires belongs { IsBookOf case.now book.now }
         requires place { place < length self.old }
         requires old { AreReplicasOf case.now book.now.lists broker (get_or self.old place []) }
+        // The partition that goes is in it, and the one that comes is another or the same.
         requires member { IsTrue (has (get_or self.old place []) gone) }
         requires new { (has (get_or self.old place []) part ≡ false) ⊎ (part ≡ gone) }
+        // This row alone changes.
         ensures others { self.new ≡ slice_set self.old place (get_or self.new place []) }
         ensures row { IsTraded (disk_of case.now book.now.lists broker) gone weight part
             (get_or self.old place []) (get_or self.new place []) }

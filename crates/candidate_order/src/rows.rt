@@ -85,15 +85,19 @@ fn move_serves<G: Goal>(
     own: Option<u64>,
     target: &Row,
 ) -> bool
+    // The goals and the book are of the case.
     requires made { All (λ g. G.made_for g case.now) earlier.now }
     requires made_goal { G.made_for goal.now case.now }
     requires belongs { IsBookOf case.now book.now }
+    // The partition, its source and its weights.
     requires part { part < length case.now.parts }
     requires source { IsRowFor G.Goal case.now book.now.lists earlier.now goal.now source.now }
     requires weights { weights.now
         ≡ weights_for G.Goal case.now book.now.lists part source.now.id earlier.now }
     requires own { own ≡ weight_for G.Goal case.now book.now.lists part source.now.id goal.now }
+    // The target.
     requires target { IsRowFor G.Goal case.now book.now.lists earlier.now goal.now target.now }
+    // Whether the move serves.
     ensures { IsTrue result
         ↔ StepFor G.Goal case.now book.now.lists earlier.now goal.now
         (Action.Move part source.now.id target.now.id) }
@@ -133,15 +137,19 @@ pub fn first_to<G: Goal>(
     weights: &[u64],
     own: Option<u64>,
 ) -> Option<Action>
+    // The goals and the book are of the case.
     requires made { All (λ g. G.made_for g case.now) earlier.now }
     requires made_goal { G.made_for goal.now case.now }
     requires belongs { IsBookOf case.now book.now }
+    // The targets.
     requires rows { All (IsRowFor G.Goal case.now book.now.lists earlier.now goal.now) rows.now }
+    // The partition, its source and its weights.
     requires part { part < length case.now.parts }
     requires source { IsRowFor G.Goal case.now book.now.lists earlier.now goal.now source.now }
     requires weights { weights.now
         ≡ weights_for G.Goal case.now book.now.lists part source.now.id earlier.now }
     requires own { own ≡ weight_for G.Goal case.now book.now.lists part source.now.id goal.now }
+    // The first that serves, or none does.
     ensures { FindsFirst G.Goal case.now book.now.lists earlier.now goal.now
         (map (λ (r : Row). Action.Move part source.now.id r.id) rows.now) result }
 {
@@ -229,15 +237,19 @@ pub fn first_anywhere<G: Goal>(
     weights: &[u64],
     own: Option<u64>,
 ) -> Option<Action>
+    // The goals and the book are of the case.
     requires made { All (λ g. G.made_for g case.now) earlier.now }
     requires made_goal { G.made_for goal.now case.now }
     requires belongs { IsBookOf case.now book.now }
+    // The scan is of these lists.
     requires scan { IsScanFor G.Goal case.now book.now.lists earlier.now goal.now scan.now }
+    // The partition, its source and its weights.
     requires part { part < length case.now.parts }
     requires source { IsRowFor G.Goal case.now book.now.lists earlier.now goal.now source.now }
     requires weights { weights.now
         ≡ weights_for G.Goal case.now book.now.lists part source.now.id earlier.now }
     requires own { own ≡ weight_for G.Goal case.now book.now.lists part source.now.id goal.now }
+    // The first that serves, or none does.
     ensures { FindsFirst G.Goal case.now book.now.lists earlier.now goal.now
         (moves_of_replica case.now source.now.id part) result }
 {

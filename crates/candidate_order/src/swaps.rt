@@ -85,17 +85,21 @@ fn swap_serves<G: Goal>(
     other: u32,
     target: &Row,
 ) -> bool
+    // The goals and the book are of the case.
     requires made { All (λ g. G.made_for g case.now) earlier.now }
     requires made_goal { G.made_for goal.now case.now }
     requires belongs { IsBookOf case.now book.now }
+    // What is weighed, and the partition with its source.
     requires weights { AreWeights G.weighs earlier.now case.now.parts weights.now }
     requires part { part < length case.now.parts }
     requires source { IsRowFor G.Goal case.now book.now.lists earlier.now goal.now source.now }
     requires outs { outs.now
         ≡ weights_for G.Goal case.now book.now.lists part source.now.id earlier.now }
     requires own { own ≡ weight_for G.Goal case.now book.now.lists part source.now.id goal.now }
+    // The other partition and its target.
     requires other { other < length case.now.parts }
     requires target { IsRowFor G.Goal case.now book.now.lists earlier.now goal.now target.now }
+    // Whether the swap serves.
     ensures { IsTrue result
         ↔ StepFor G.Goal case.now book.now.lists earlier.now goal.now
         (Action.Swap part source.now.id other target.now.id) }
@@ -138,17 +142,21 @@ fn first_with<G: Goal>(
     target: &Row,
     others: &[u32],
 ) -> Option<Action>
+    // The goals and the book are of the case.
     requires made { All (λ g. G.made_for g case.now) earlier.now }
     requires made_goal { G.made_for goal.now case.now }
     requires belongs { IsBookOf case.now book.now }
+    // What is weighed, and the partition with its source.
     requires weights { AreWeights G.weighs earlier.now case.now.parts weights.now }
     requires part { part < length case.now.parts }
     requires source { IsRowFor G.Goal case.now book.now.lists earlier.now goal.now source.now }
     requires outs { outs.now
         ≡ weights_for G.Goal case.now book.now.lists part source.now.id earlier.now }
     requires own { own ≡ weight_for G.Goal case.now book.now.lists part source.now.id goal.now }
+    // The target and its partitions.
     requires target { IsRowFor G.Goal case.now book.now.lists earlier.now goal.now target.now }
     requires others { All (λ q. q < length case.now.parts) others.now }
+    // The first that serves, or none does.
     ensures { FindsFirst G.Goal case.now book.now.lists earlier.now goal.now
         (map (λ q. Action.Swap part source.now.id q target.now.id) others.now) result }
 {
@@ -184,16 +192,20 @@ fn some_of_serves<G: Goal>(
     own: Option<u64>,
     other: u32,
 ) -> bool
+    // The goals and the book are of the case.
     requires made { All (λ g. G.made_for g case.now) earlier.now }
     requires made_goal { G.made_for goal.now case.now }
     requires belongs { IsBookOf case.now book.now }
+    // The scan is of these lists, and so is the row of the source.
     requires scan { IsScanFor G.Goal case.now book.now.lists earlier.now goal.now scan.now }
     requires part { part < length case.now.parts }
     requires source { IsRowFor G.Goal case.now book.now.lists earlier.now goal.now source.now }
     requires outs { outs.now
         ≡ weights_for G.Goal case.now book.now.lists part source.now.id earlier.now }
     requires own { own ≡ weight_for G.Goal case.now book.now.lists part source.now.id goal.now }
+    // The other partition.
     requires other { other < length case.now.parts }
+    // No means that none of its members serves.
     ensures { result ≡ false
         → All
         (λ b. StepFor G.Goal case.now book.now.lists earlier.now goal.now
@@ -226,15 +238,18 @@ fn some_stirring_serves<G: Goal>(
     outs: &[u64],
     own: Option<u64>,
 ) -> bool
+    // The goals and the book are of the case.
     requires made { All (λ g. G.made_for g case.now) earlier.now }
     requires made_goal { G.made_for goal.now case.now }
     requires belongs { IsBookOf case.now book.now }
+    // The scan is of these lists, and so is the row of the source.
     requires scan { IsScanFor G.Goal case.now book.now.lists earlier.now goal.now scan.now }
     requires part { part < length case.now.parts }
     requires source { IsRowFor G.Goal case.now book.now.lists earlier.now goal.now source.now }
     requires outs { outs.now
         ≡ weights_for G.Goal case.now book.now.lists part source.now.id earlier.now }
     requires own { own ≡ weight_for G.Goal case.now book.now.lists part source.now.id goal.now }
+    // No means that no partition that stirs serves.
     ensures { result ≡ false
         → All
         (λ q. All
@@ -267,15 +282,18 @@ fn may_serve<G: Goal>(
     outs: &[u64],
     own: Option<u64>,
 ) -> bool
+    // The goals and the book are of the case.
     requires made { All (λ g. G.made_for g case.now) earlier.now }
     requires made_goal { G.made_for goal.now case.now }
     requires belongs { IsBookOf case.now book.now }
+    // The scan is of these lists, and so is the row of the source.
     requires scan { IsScanFor G.Goal case.now book.now.lists earlier.now goal.now scan.now }
     requires part { part < length case.now.parts }
     requires source { IsRowFor G.Goal case.now book.now.lists earlier.now goal.now source.now }
     requires outs { outs.now
         ≡ weights_for G.Goal case.now book.now.lists part source.now.id earlier.now }
     requires own { own ≡ weight_for G.Goal case.now book.now.lists part source.now.id goal.now }
+    // No means that no swap serves.
     ensures { result ≡ false → (q b : ℕ)
         → StepFor G.Goal case.now book.now.lists earlier.now goal.now
         (Action.Swap part source.now.id q b) → ⊥ }
@@ -303,13 +321,16 @@ pub fn first_swap<G: Goal>(
     part: u32,
     source: &Row,
 ) -> Option<Action>
+    // The goals and the book are of the case.
     requires made { All (λ g. G.made_for g case.now) earlier.now }
     requires made_goal { G.made_for goal.now case.now }
     requires belongs { IsBookOf case.now book.now }
+    // The order and the scan are of these lists, and so is the row of the source.
     requires order { IsOrderOf case.now book.now.lists order.now }
     requires scan { IsScanFor G.Goal case.now book.now.lists earlier.now goal.now scan.now }
     requires part { part < length case.now.parts }
     requires source { IsRowFor G.Goal case.now book.now.lists earlier.now goal.now source.now }
+    // The first that serves, or none does.
     ensures { FindsFirst G.Goal case.now book.now.lists earlier.now goal.now
         (candidates_at kind.Swaps case.now book.now.lists source.now.id part) result }
 {

@@ -54,9 +54,11 @@ pub fn trade_serves<G: Goal>(
     givers: &[Room],
     takers: &[Room],
 ) -> bool
+    // The goals and the book are of the case.
     requires made { All (λ g. G.made_for g case.now) earlier.now }
     requires made_goal { G.made_for goal.now case.now }
     requires belongs { IsBookOf case.now book.now }
+    // What goes and what comes back, and the rooms on both sides.
     requires part { part < length case.now.parts }
     requires outs { outs.now
         ≡ map (λ g. look_out (G.weighs g) case.now.parts book.now.lists action) earlier.now }
@@ -66,6 +68,7 @@ pub fn trade_serves<G: Goal>(
         ≡ rooms_for G.Goal case.now book.now.lists (giver book.now.lists action) earlier.now }
     requires takers { takers.now
         ≡ rooms_for G.Goal case.now book.now.lists (taker action) earlier.now }
+    // Whether the action serves.
     ensures { IsTrue result ↔ StepFor G.Goal case.now book.now.lists earlier.now goal.now action }
 {
     let _brokers = case.brokers();

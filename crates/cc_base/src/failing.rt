@@ -82,6 +82,7 @@ impl<T: Source> Source for Failing<T> {
     ghost beside = { λ f. T.beside f.inner };
 
     fn read(&mut self, buf: &mut [u8]) -> Result<usize, Failed>
+        // There is room to read to.
         requires { 0 < length buf.old }
         // A call that is to fail does, and reads nothing. Each call is counted.
         ensures fails { IsListed self.old.calls → IsErr result }

@@ -82,14 +82,16 @@ impl<S: Source, K: Sink> Link for Joined<S, K> {
 ///
 /// `ReadFault` where the call failed. No byte is taken then.
 pub fn read_link<L: Link>(link: &mut L, buf: &mut [u8]) -> Result<usize, ReadFault>
+    // There is room to read to.
     requires { 0 < length buf.old }
+    // An error is a fault that is counted.
     ensures cause { HasCause (L.Source.faults link.old) (L.Source.faults link.new) result }
+    // What was read, and what is left.
     ensures fits { IfOk result (λ n. n ≤ length buf.new) }
     ensures next { IfOk result (λ n. IfSome (L.left link.old) (λ told. IsNext n buf.new told)) }
     ensures left { IfOk result (λ n. L.left link.new ≡ after n (L.left link.old)) }
     ensures failed { OnErr result (L.left link.new ≡ L.left link.old) }
-
-    // the writing side
+    // Of the writing side nothing changes.
     ensures written { L.written link.new ≡ L.written link.old }
     ensures faults { L.Sink.faults link.new ≡ L.Sink.faults link.old }
 {

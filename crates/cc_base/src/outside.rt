@@ -74,12 +74,16 @@ pub trait Source {
     /// `Failed` where the call fails. No byte is lost then: a later call gives what this one would
     /// have given.
     fn read(&mut self, buf: &mut [u8]) -> Result<usize, Failed>
+        // There is room to read to.
         requires { 0 < length buf.old }
+        // An error is a fault that is counted.
         ensures cause { HasCause (faults self.old) (faults self.new) result }
+        // What was read, and what is left.
         ensures fits { IfOk result (λ n. n ≤ length buf.new) }
         ensures next { IfOk result (λ n. IfSome (left self.old) (λ told. IsNext n buf.new told)) }
         ensures left { IfOk result (λ n. left self.new ≡ after n (left self.old)) }
         ensures failed { OnErr result (left self.new ≡ left self.old) }
+        // Nothing else changes.
         ensures beside { beside self.new ≡ beside self.old };
 }
 
@@ -146,12 +150,16 @@ pub trait Files {
 ///
 /// `ReadFault` where the source's call failed. No byte is lost then.
 pub fn read_some<S: Source>(source: &mut S, buf: &mut [u8]) -> Result<usize, ReadFault>
+    // There is room to read to.
     requires { 0 < length buf.old }
+    // An error is a fault that is counted.
     ensures cause { HasCause (S.faults source.old) (S.faults source.new) result }
+    // What was read, and what is left.
     ensures fits { IfOk result (λ n. n ≤ length buf.new) }
     ensures next { IfOk result (λ n. IfSome (S.left source.old) (λ told. IsNext n buf.new told)) }
     ensures left { IfOk result (λ n. S.left source.new ≡ after n (S.left source.old)) }
     ensures failed { OnErr result (S.left source.new ≡ S.left source.old) }
+    // Nothing else changes.
     ensures beside { S.beside source.new ≡ S.beside source.old }
 {
     source.read(buf).map_err(|_| ReadFault)

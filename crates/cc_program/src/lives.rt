@@ -206,11 +206,14 @@ fn live<
 ) -> (End, Left<A, K, L, N>)
 where
     N::Conn: Send + Drop,
+    // The book is as it was opened.
     requires opened { book ≡ opened book.file book.admin }
+    // A copier for each mover and link, a part for each thread, and room for the links.
     requires enough { crew.workers.movers + links_of crew.serving < vec_len outside.copiers }
     requires few { crew.workers.planners + (crew.workers.movers + links_of crew.serving) < 1048576 }
     requires none { room.items ≡ [] }
     requires room { links_of crew.serving ≤ vec_capacity room }
+    // The book comes back, behind what the session did.
     ensures begun { IsSome result.1.book }
     ensures over { IfSome result.1.book
         (λ c. IsOver (gate A.faults A.told) book.file (crew_told crew)

@@ -129,12 +129,16 @@ fn perform<F: Files, L: Link, R: Threads + Sync>(
     request: Request,
     file: ClusterFile,
 ) -> End
+    // The file was read.
     requires { IsFile file }
+    // Faults are counted, and never fewer.
     ensures files { F.faults files.old ≤ F.faults files.new }
     ensures out { L.Sink.faults console.old ≤ L.Sink.faults console.new }
+    // The command did what its words want.
     ensures performs { Performs (asked request) (file_seen file)
         (edge_told F.Files L.Source L.Sink files.old files.new console.old console.new) result }
     ensures logs { PerformLogs (asked request) (F.log files.old) (F.log files.new) result }
+    // What is read of the input.
     ensures input { IsInputKept (asked request) (L.left console.old) (L.left console.new)
         (L.Source.faults console.old) (L.Source.faults console.new) }
     ensures source { L.Source.faults console.old ≤ L.Source.faults console.new }

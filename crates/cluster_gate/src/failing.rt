@@ -71,6 +71,7 @@ impl<A: Admin> Admin for FailingAdmin<A> {
     }
 
     fn begin(&mut self, part: u32, union: &[u32]) -> Result<(), Failed>
+        // The partition is one of the cluster, and the list is a short one.
         requires installed { part < A.parts self.old.inner }
         requires few { length union.now ≤ 16 }
         // A call that is to fail does, and writes nothing. Each call is counted.
@@ -93,6 +94,7 @@ impl<A: Admin> Admin for FailingAdmin<A> {
     }
 
     fn commit(&mut self, part: u32, after: &[u32]) -> Result<(), Failed>
+        // The partition is one of the cluster, and the list is a short one.
         requires installed { part < A.parts self.old.inner }
         requires few { length after.now ≤ 16 }
         // A call that is to fail does, and writes nothing. Each call is counted.
@@ -115,6 +117,7 @@ impl<A: Admin> Admin for FailingAdmin<A> {
     }
 
     fn cancel(&mut self, part: u32, before: &[u32]) -> Result<(), Failed>
+        // The partition is one of the cluster, and the list is a short one.
         requires installed { part < A.parts self.old.inner }
         requires few { length before.now ≤ 16 }
         // A call that is to fail does, and writes nothing. Each call is counted.

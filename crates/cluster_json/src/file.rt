@@ -180,11 +180,13 @@ fn assignment_of(alloc: Global, case: &Case, lists: Vec<Vec<u32>>) -> Result<Ass
 // The file that the members make.
 #[tactic(auto, unfolding(crate::specs::File::cluster_at))]
 fn load(alloc: Global, members: FileMembers) -> Result<ClusterFile, FileRefusal>
+    // Each member is in its range.
     requires loads { All (λ p. AreLoads p.part.loads) members.parts }
     requires caps { AreCaps members.config.caps }
     requires rules { AreRules members.config.rules }
     requires share { IsShare members.config.ratio }
     requires samples { All (IsSample (length members.parts)) members.samples }
+    // The cluster of these members, or the first refusal.
     ensures means { Gives file_seen result (cluster_at (members_seen members)) }
     ensures file { IfOk result IsFile }
 {

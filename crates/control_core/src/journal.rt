@@ -69,6 +69,7 @@ impl Machine {
 
     /// Makes the call of the admin that goes with an event. A failed call changes no list.
     pub fn write<A: Admin>(&self, admin: &mut A, event: &Event) -> Result<(), Failed>
+        // Few leases were given, and the admin has the executor's partitions.
         requires few { self.now.desk.exec.leases < 2 ^ 63 }
         requires installed { A.parts admin.old ≡ length self.now.desk.exec.base }
         // The list that the event writes is told, or none is.

@@ -43,6 +43,7 @@ impl Machine {
     /// Answers an event, and is in the next state. Only an event that wants memory may meet want of
     /// it, and then nothing changes.
     pub fn serve(&mut self, alloc: Global, event: &Event) -> Result<Reply, Memory>
+        // Its parts fit each other, and few leases and tickets were given.
         requires { IsReady self.old }
         // The reply and the next state are those of the definition, for whatever samples the
         // windows stand for.

@@ -15,12 +15,15 @@ use executor_core::Exec;
 
 // A task that is to begin has both its lists.
 fn begin<A: Admin>(admin: &mut A, exec: &Exec) -> Result<(), Failed>
+    // The admin has the partitions of the executor.
     requires few { exec.now.leases < 2 ^ 63 }
     requires installed { A.parts admin.old ≡ length exec.now.base }
+    // What the admin was told.
     ensures told { OnOk result
         (A.told admin.new ≡ begun exec.now (A.told admin.old) (next_work exec.now)) }
     ensures failed { OnErr result (A.told admin.new ≡ A.told admin.old) }
     ensures parts { A.parts admin.new ≡ A.parts admin.old }
+    // A failure is a fault of the admin, and comes only while a task is unfinished.
     ensures later { A.faults admin.old ≤ A.faults admin.new }
     ensures cause { OnErr result (HasRisen (A.faults admin.old) (A.faults admin.new)) }
     ensures busy { OnErr result (any_unfinished exec.now.tasks ≡ true) }
@@ -37,12 +40,15 @@ fn begin<A: Admin>(admin: &mut A, exec: &Exec) -> Result<(), Failed>
 
 // The last work on the task of a lease: a commit writes its new list, and a cancel its old one.
 fn finish<A: Admin>(admin: &mut A, exec: &Exec, lease: u64, kind: WorkKind) -> Result<(), Failed>
+    // The admin has the partitions of the executor.
     requires installed { A.parts admin.old ≡ length exec.now.base }
+    // What the admin was told.
     ensures told { OnOk result
         (A.told admin.new
         ≡ written (last_list kind) exec.now (A.told admin.old) (test_lease exec.now lease kind)) }
     ensures failed { OnErr result (A.told admin.new ≡ A.told admin.old) }
     ensures parts { A.parts admin.new ≡ A.parts admin.old }
+    // A failure is a fault of the admin, and comes only while a task is unfinished.
     ensures later { A.faults admin.old ≤ A.faults admin.new }
     ensures cause { OnErr result (HasRisen (A.faults admin.old) (A.faults admin.new)) }
     ensures busy { OnErr result (any_unfinished exec.now.tasks ≡ true) }
@@ -60,6 +66,7 @@ fn finish<A: Admin>(admin: &mut A, exec: &Exec, lease: u64, kind: WorkKind) -> R
 
 /// Makes the call of the admin that goes with an event. A failed call changes no list.
 pub fn write<A: Admin>(admin: &mut A, exec: &Exec, event: &Event) -> Result<(), Failed>
+    // Few leases were given, and the admin has the executor's partitions.
     requires few { exec.now.leases < 2 ^ 63 }
     requires installed { A.parts admin.old ≡ length exec.now.base }
     // The list that the event writes is told, or none is.

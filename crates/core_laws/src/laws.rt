@@ -44,13 +44,17 @@ pub fn every_history()
 /// nothing. Only a request is answered that another is in the way, exactly where a task is
 /// unfinished or a plan is made to be carried out.
 pub fn every_event()
+    // What an event does to the executor.
     ensures launches { PlansCanBeLaunched }
     ensures moves { EventsMoveExecutor }
+    // What it starts keeps the caps in force, and nothing else raises a number in flight.
     ensures starts { StartsKeepCapsInForce }
     ensures others { OthersRaiseNone }
+    // How the work that is left rises and falls.
     ensures work { OnlyPlansRaiseWork }
     ensures less { EndedWorkIsLess }
     ensures there { WorkIsThere }
+    // What a refusal keeps, and when a request finds another in the way.
     ensures refusals { RefusalsKeepState }
     ensures requests { OnlyRequestsMeetExecution }
     ensures executing { ExecutingIsExact }

@@ -111,12 +111,15 @@ pub fn launched(
     before: &Assign,
     after: &Assign,
 ) -> Result<Exec, Memory>
+    // No cap is 0.
     requires broker_cap { 1 ≤ caps.broker }
     requires cluster_cap { 1 ≤ caps.cluster }
     requires leader_cap { 1 ≤ caps.leader }
+    // Both lists are of the case, and no lost broker is wanted.
     requires before { Belongs case.now before.now }
     requires after { Belongs case.now after.now }
     requires no_lost { All (λ list. list_any (is_lost case.now) list ≡ false) after.now }
+    // The executor of the definition.
     ensures { IfOk result
         (IsBetweenRounds before.now (proposals before.now after.now) caps
         (opening case.now before.now caps).hosts) }
@@ -170,6 +173,7 @@ pub fn carry_out(
     before: &Assign,
     after: &Assign,
 ) -> Result<Exec, Memory>
+    // No cap is 0, the lists are of the case, and none of those after has a lost broker.
     requires broker_cap { 1 ≤ caps.broker }
     requires cluster_cap { 1 ≤ caps.cluster }
     requires leader_cap { 1 ≤ caps.leader }

@@ -95,14 +95,18 @@ impl Exec {
         brokers: &[u32],
         dead: &[u32],
     ) -> Result<Exec, Memory>
+        // The chunks of each partition.
         requires one_each { length chunks.now ≡ length lists.now }
         requires few { All (λ n. n ≤ 1000) chunks.now }
+        // No cap is 0.
         requires broker_cap { 1 ≤ caps.broker }
         requires cluster_cap { 1 ≤ caps.cluster }
         requires leader_cap { 1 ≤ caps.leader }
+        // The brokers, and those of them that the lists name and that are dead.
         requires distinct { IsTrue (distinct brokers.now) }
         requires members { All (λ list. list_all (has brokers.now) list ≡ true) lists.now }
         requires dead { list_all (has brokers.now) dead.now ≡ true }
+        // The state at the opening.
         ensures { IfOk result
             (λ exec. exec ≡ new_state lists.now chunks.now caps (hosts_of brokers.now dead.now)) }
     {
@@ -460,8 +464,7 @@ impl Exec {
         held_by(i, &tasks[i])
     }
 
-    /// Stops the execution: aborts the tasks that wait, and with force makes those in progress
-    /// abort.
+    /// Stops the execution: aborts the tasks that wait, and with force those in progress too.
     pub fn stop(&mut self, force: bool) -> Result<Stopped, NothingToStop>
         ensures state { self.new ≡ after_stop self.old force }
         ensures reply { result ≡ stop_reply self.old force }
@@ -584,8 +587,7 @@ impl Exec {
         }
     }
 
-    /// The settled lists of all partitions, in order: the present lists, but the old one of a task
-    /// in flight.
+    /// The settled lists, in order: the present ones, but the old one of a task in flight.
     pub fn settled_lists(&self, alloc: Global) -> Result<Vec<Replicas>, Memory>
         ensures { IfOk result (λ lists. lists.items ≡ settled_lists self.now) }
     {
@@ -606,8 +608,7 @@ impl Exec {
         self.unions[task as usize].as_slice()
     }
 
-    /// From now on these caps are in force. Tasks in flight go on, and none starts before there is
-    /// room for it.
+    /// From now on these caps are in force. Tasks in flight go on; none starts beyond the caps.
     pub fn set_caps(&mut self, caps: Caps)
         requires broker_cap { 1 ≤ caps.broker }
         requires cluster_cap { 1 ≤ caps.cluster }
@@ -691,8 +692,7 @@ impl Exec {
         self.tasks.len() as u32
     }
 
-    /// What a task was made of: its partition, the list that it had, and the one that it is to
-    /// have.
+    /// What a task was made of: its partition, the list that it had, and the one it is to have.
     pub fn proposal(&self, task: u32) -> &Proposal
         requires { task < length self.now.tasks }
         ensures { result.now ≡ proposal_of (task_at self.now.tasks task) }

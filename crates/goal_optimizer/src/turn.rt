@@ -26,16 +26,19 @@ pub fn take_turn<G: Goal + Sync, R: Threads + Sync>(
     earlier: &[G],
     goal: &G,
 ) -> Result<Actions, Memory>
+    // The goals, the book and the order are of the case.
     requires made { All (λ g. G.made_for g case.now) earlier.now }
     requires made_goal { G.made_for goal.now case.now }
     requires belongs { IsBookOf case.now book.old }
     requires order { IsOrderOf case.now book.old.lists order.old }
+    // The actions of the turn, each the first of its candidates.
     ensures turn { IfOk result
         (λ actions. Turn case.now (map (λ g. G.meaning g case.now) earlier.now)
         (G.meaning goal.now case.now) book.old.lists actions) }
     ensures firsts { IfOk result
         (λ actions. FirstSteps case.now (map (λ g. G.meaning g case.now) earlier.now)
         (G.meaning goal.now case.now) book.old.lists actions) }
+    // The book and the order go with the lists; the cluster stays.
     ensures end { IfOk result (λ actions. book.new.lists ≡ after_all actions book.old.lists) }
     ensures belongs { IfOk result (λ actions. IsBookOf case.now book.new) }
     ensures order { IfOk result (λ actions. IsOrderOf case.now book.new.lists order.new) }

@@ -207,10 +207,12 @@ impl MinTopicLeadersPerBrokerGoal {
 
     // The excesses of the two brokers of an action, before and after it, for the topic at a place.
     fn sides_at(&self, case: &Case, book: &LoadBook, place: usize, action: Action) -> Sides
+        // The rule and the book are of the case, the topic is one of its own, and the action fits.
         requires made { IsMadeFor self.now.topics.items self.now.floors.items case.now }
         requires place { place < length self.now.topics.items }
         requires belongs { IsBookOf case.now book.now }
         requires applies { IsTrue (fits book.now.lists action) }
+        // The excesses of the definition, each at most 2^111.
         ensures value { result
             ≡ sides (rule_weights (least_rule case.now) (get_or self.now.topics.items place []))
             ((least_rule case.now).bounds (get_or self.now.topics.items place [])) case.now

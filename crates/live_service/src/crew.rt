@@ -71,19 +71,24 @@ fn with_movers<
 ) -> (Pass<Book<A>>, Front<K, L, N>, FrontEnd)
 where
     N::Conn: Send + Drop,
+    // The pass is of this turn.
     requires own { Belongs turn.now pass }
+    // A copier and a part for each thread, and room for the links.
     requires copiers { movers + links_of serving ≤ vec_len front.service.copiers }
     requires parts { movers + links_of serving < pass.parts }
     requires none { front.service.served.items ≡ [] }
     requires room { links_of serving ≤ vec_capacity front.service.served }
+    // The pass goes on.
     ensures own { Belongs turn.now result.0 }
     ensures later { IsLater pass result.0 }
+    // What was done meanwhile.
     ensures run { HasRun (λ xs ys. HasFronted (HasAnswered turn.now.start.file (links_asked serving)
         (front_told K.Copier L.Source L.Sink N.Listener front)
         (front_told K.Copier L.Source L.Sink N.Listener result.1)
         (served_told N.Conn.Source N.Conn.Sink result.1.service.served.items) result.2 xs ys))
         turn.now.start.file pass result.0 (copiers_told K.Copier front)
         (copiers_told K.Copier result.1) movers }
+    // All copiers come back.
     ensures count { vec_len result.1.service.copiers ≡ vec_len front.service.copiers }
     ensures copiers_room { vec_capacity front.service.copiers
         ≤ vec_capacity result.1.service.copiers }
@@ -148,13 +153,17 @@ pub fn with_workers<
 ) -> (Pass<Book<A>>, Front<K, L, N>, FrontEnd)
 where
     N::Conn: Send + Drop,
+    // The pass is of this turn.
     requires own { Belongs turn.now pass }
+    // A copier and a part for each thread, and room for the links.
     requires copiers { movers + links_of serving ≤ vec_len front.service.copiers }
     requires parts { planners + (movers + links_of serving) < pass.parts }
     requires none { front.service.served.items ≡ [] }
     requires room { links_of serving ≤ vec_capacity front.service.served }
+    // The pass goes on.
     ensures own { Belongs turn.now result.0 }
     ensures later { IsLater pass result.0 }
+    // What was done meanwhile.
     ensures run { HasRunAll
         (λ xs ys. HasFronted
         (HasAnswered turn.now.start.file (links_asked serving)
@@ -163,6 +172,7 @@ where
         (served_told N.Conn.Source N.Conn.Sink result.1.service.served.items) result.2 xs ys))
         turn.now.start.file pass result.0 (copiers_told K.Copier front)
         (copiers_told K.Copier result.1) movers planners }
+    // All copiers come back.
     ensures count { vec_len result.1.service.copiers ≡ vec_len front.service.copiers }
     ensures copiers_room { vec_capacity front.service.copiers
         ≤ vec_capacity result.1.service.copiers }

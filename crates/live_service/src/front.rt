@@ -73,18 +73,23 @@ fn answer<
 ) -> (Pass<Book<A>>, Front<K, L, N>, FrontEnd)
 where
     N::Conn: Send + Drop,
+    // The pass is of this turn.
     requires own { Belongs turn.now pass }
+    // A copier and a part for each thread, and room for the links.
     requires copiers { links_of serving ≤ vec_len front.service.copiers }
     requires parts { links_of serving < pass.parts }
     requires none { front.service.served.items ≡ [] }
     requires room { links_of serving ≤ vec_capacity front.service.served }
+    // The pass goes on.
     ensures own { Belongs turn.now result.0 }
     ensures later { IsLater pass result.0 }
+    // What was done meanwhile.
     ensures answered { HasAnswered turn.now.start.file (links_asked serving)
         (front_told K.Copier L.Source L.Sink N.Listener front)
         (front_told K.Copier L.Source L.Sink N.Listener result.1)
         (served_told N.Conn.Source N.Conn.Sink result.1.service.served.items) result.2
         (copiers_told K.Copier front) (copiers_told K.Copier result.1) pass result.0 }
+    // All copiers come back.
     ensures count { vec_len result.1.service.copiers ≡ vec_len front.service.copiers }
     ensures copiers_room { vec_capacity front.service.copiers
         ≤ vec_capacity result.1.service.copiers }
@@ -138,18 +143,23 @@ pub fn serve_front<
 ) -> (Pass<Book<A>>, Front<K, L, N>, FrontEnd)
 where
     N::Conn: Send + Drop,
+    // The pass is of this turn.
     requires own { Belongs turn.now pass }
+    // A copier and a part for each thread, and room for the links.
     requires copiers { links_of serving ≤ vec_len front.service.copiers }
     requires parts { links_of serving < pass.parts }
     requires none { front.service.served.items ≡ [] }
     requires room { links_of serving ≤ vec_capacity front.service.served }
+    // The pass goes on.
     ensures own { Belongs turn.now result.0 }
     ensures later { IsLater pass result.0 }
+    // What was done meanwhile.
     ensures fronted { HasFronted (HasAnswered turn.now.start.file (links_asked serving)
         (front_told K.Copier L.Source L.Sink N.Listener front)
         (front_told K.Copier L.Source L.Sink N.Listener result.1)
         (served_told N.Conn.Source N.Conn.Sink result.1.service.served.items) result.2
         (copiers_told K.Copier front) (copiers_told K.Copier result.1)) pass result.0 }
+    // All copiers come back.
     ensures count { vec_len result.1.service.copiers ≡ vec_len front.service.copiers }
     ensures copiers_room { vec_capacity front.service.copiers
         ≤ vec_capacity result.1.service.copiers }

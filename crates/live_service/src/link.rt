@@ -25,6 +25,7 @@ pub fn serve_link<A: Admin, K: Copier, L: Link, R: Threads + Wait + Sync>(
     copier: &mut K,
     link: &mut L,
 ) -> (Pass<Book<A>>, LinkEnd)
+    // The pass is one of the turn.
     requires own { Belongs turn.now pass }
     // The pass is one of the turn, and has seen no less.
     ensures own { Belongs turn.now result.0 }

@@ -85,6 +85,7 @@ fn accept_links<
 ) -> (Pass<Book<A>>, Service<K, N>, Result<(), Failed>)
 where
     N::Conn: Send + Drop,
+    // A copier, a part and room for each link, and none was served before.
     requires own { Belongs turn.now pass }
     requires copiers { links ≤ vec_len service.copiers }
     requires parts { links < pass.parts }
@@ -178,6 +179,7 @@ pub fn serve_links<
 ) -> (Pass<Book<A>>, Service<K, N>, Result<(), Failed>)
 where
     N::Conn: Send + Drop,
+    // A copier, a part and room for each link, and none was served before.
     requires own { Belongs turn.now pass }
     requires copiers { serving.now.links ≤ vec_len service.copiers }
     requires parts { serving.now.links < pass.parts }

@@ -52,11 +52,14 @@ fn share<
 ) -> Result<(Book<A>, Front<K, L, N>, FrontEnd), Unshared<A, K, L, N>>
 where
     N::Conn: Send + Drop,
+    // Nothing was done before.
     requires opened { book.journal ≡ [] }
+    // A copier and a part for each thread, and room for the links.
     requires copiers { movers + links_of serving ≤ vec_len front.service.copiers }
     requires few { planners + (movers + links_of serving) < 1048576 }
     requires none { front.service.served.items ≡ [] }
     requires room { links_of serving ≤ vec_capacity front.service.served }
+    // What was done, and the copiers come back.
     ensures shared { IfOk result (λ r. IsShared (λ xs ys. HasFronted (HasAnswered book.file
         (links_asked serving) (front_told K.Copier L.Source L.Sink N.Listener front)
         (front_told K.Copier L.Source L.Sink N.Listener r.1)
@@ -65,6 +68,7 @@ where
     ensures count { IfOk result (λ r. vec_len r.1.service.copiers ≡ vec_len front.service.copiers) }
     ensures copiers_room { IfOk result
         (λ r. vec_capacity front.service.copiers ≤ vec_capacity r.1.service.copiers) }
+    // Out of memory, all is handed back.
     ensures handed_back { IfErr result (λ e. (e.book ≡ book) × (e.front ≡ front)) }
 {
     match Turn::new(alloc, book) {
@@ -118,6 +122,7 @@ pub fn run_live_service<
 ) -> Result<Live<A, K, L, N>, Unshared<A, K, L, N>>
 where
     N::Conn: Send + Drop,
+    // A copier and a part for each thread, room for the links, and nothing was done before.
     requires opened { book.journal ≡ [] }
     requires copiers { movers + links_of serving ≤ vec_len front.service.copiers }
     requires few { planners + (movers + links_of serving) < 1048576 }

@@ -118,10 +118,12 @@ impl Row {
 
     // Changes one number.
     fn change_at(&mut self, column: usize, weight: u64, gains: bool)
+        // The column, what it has and what is added or taken.
         requires column { column < length self.old }
         requires fits { slice_index self.old column < 2 ^ 63 }
         requires small { weight < 2 ^ 32 }
         requires enough { gains ≡ false → weight ≤ slice_index self.old column }
+        // This column alone changes, by the weight.
         ensures long { length self.new ≡ length self.old }
         ensures here { slice_index self.new column + (if gains then 0 else weight)
             ≡ slice_index self.old column + (if gains then weight else 0) }
@@ -133,12 +135,15 @@ impl Row {
 
     // Takes a place of a partition's list on or off, for one kind.
     fn change_kind(&mut self, case: &Case, kind: Amount, part: usize, first: bool, gains: bool)
+        // The kind, the partition and the row.
         requires range { InRange kind case.now.parts }
         requires part { part < length case.now.parts }
         requires long { length self.old ≡ columns case.now.parts }
+        // The sum has room, and has what is taken.
         requires fits { slice_index self.old (column kind) < 2 ^ 63 }
         requires enough { gains ≡ false
             → weight_at kind case.now.parts part first ≤ slice_index self.old (column kind) }
+        // The column of this kind alone changes.
         ensures long { length self.new ≡ length self.old }
         ensures here { slice_index self.new (column kind) +
             (if gains then 0 else weight_at kind case.now.parts part first)
@@ -242,14 +247,17 @@ impl Table {
 
     // Takes a place of the broker of this id on or off.
     fn change(&mut self, case: &Case, id: u32, part: usize, first: bool, gains: bool)
+        // The partition, and a row for each broker.
         requires part { part < length case.now.parts }
         requires one_each { length self.old ≡ length case.now.brokers }
         requires long { AreLong case.now self.old }
+        // The sums have room, and have what is taken.
         requires fits { AreBelow (2 ^ 63) case.now self.old }
         requires enough { gains ≡ false → (k : ℕ) → k < length case.now.brokers → (kind : Amount)
             → InRange kind case.now.parts
             → put_on id (id_at case.now.brokers k) kind case.now.parts part first
             ≤ slice_index (get_or self.old k []) (column kind) }
+        // The sums after the change.
         ensures one_each { length self.new ≡ length self.old }
         ensures each { (k : ℕ) → k < length case.now.brokers
             → IsChanged case.now.parts
@@ -265,11 +273,14 @@ impl Table {
 
     // Takes the places of a partition's list on.
     fn add_list(&mut self, case: &Case, part: usize, list: &[u32])
+        // The partition and its list, and a row for each broker.
         requires part { part < length case.now.parts }
         requires short { length list.now ≤ 8 }
         requires one_each { length self.old ≡ length case.now.brokers }
         requires long { AreLong case.now self.old }
+        // The sums have room.
         requires fits { AreBelow (2 ^ 49) case.now self.old }
+        // The sums with the list.
         ensures one_each { length self.new ≡ length self.old }
         ensures each { (k : ℕ) → k < length case.now.brokers
             → IsChanged case.now.parts (λ kind. 0)
@@ -285,15 +296,18 @@ impl Table {
 
     /// Takes a place of one broker off, and the same place of another on.
     pub fn shift(&mut self, case: &Case, part: usize, first: bool, from: u32, to: u32)
+        // The partition, and a row for each broker.
         requires part { part < length case.now.parts }
         requires one_each { length self.old ≡ length case.now.brokers }
         requires long { AreLong case.now self.old }
+        // The sums have room, and the giver has what goes.
         requires fits { AreBelow (2 ^ 62) case.now self.old }
         requires enough { (k : ℕ) → k < length case.now.brokers → (kind : Amount)
             → InRange kind case.now.parts
             → put_on from (id_at case.now.brokers k) kind case.now.parts part first
             ≤ slice_index (get_or self.old k []) (column kind) + put_on to
             (id_at case.now.brokers k) kind case.now.parts part first }
+        // The sums behind the move.
         ensures one_each { length self.new ≡ length self.old }
         ensures each { (k : ℕ) → k < length case.now.brokers → IsChanged case.now.parts
             (λ kind. put_on from (id_at case.now.brokers k) kind case.now.parts part first)

@@ -171,8 +171,10 @@ impl Windows {
     /// A sample is refused where its window is no longer kept, or else where the partition has
     /// 65,536 samples in the window. A refusal changes nothing.
     pub fn add(&mut self, part: u32, time: u64, sample: Loads) -> Result<(), SampleFault>
+        // The sample is of a partition, and in its range.
         requires part { part < self.old.parts }
         requires loads { IsLoads sample }
+        // A sample that is accepted is one more.
         ensures accepts { OnOk result
             ((samples : List Sample) → StandsFor self.old samples
             → refusal self.old.rules samples
@@ -181,11 +183,13 @@ impl Windows {
             ((samples : List Sample) → StandsFor self.old samples
             → StandsFor self.new
             (samples ++ record { part = part; time = time; loads = sample } ∷ [])) }
+        // Why a sample is refused, which changes nothing.
         ensures refused { IfErr result
             (λ e. (samples : List Sample) → StandsFor self.old samples
             → refusal self.old.rules samples
             (record { part = part; time = time; loads = sample }) ≡ Some e) }
         ensures unchanged { OnErr result (self.new ≡ self.old) }
+        // Rules and partitions stay.
         ensures rules { self.new.rules ≡ self.old.rules }
         ensures parts { self.new.parts ≡ self.old.parts }
     {
@@ -204,11 +208,13 @@ impl Windows {
     // The value of a window that has few samples itself.
     #[tactic(auto, unfolding(crate::specs::Tables::value_by))]
     fn adjacent(&self, part: u32, window: u64, here: Tally) -> Option<Loads>
+        // The window of the partition has too few samples.
         requires part { part < self.now.parts }
         requires here { here ≡ tally_in self.now part window }
         requires few { here.count ≤ 65536 }
         requires tally { IsTally here }
         requires too_few { here.count < half self.now.rules }
+        // What its neighbors give for it.
         ensures value { result ≡ value_in self.now part window }
         ensures loads { IfSome result IsLoads }
     {

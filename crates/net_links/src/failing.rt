@@ -61,11 +61,14 @@ impl<L: Listener> Listener for FailingListener<L> {
     }
 
     fn accept(&mut self) -> Result<L::Conn, Failed>
+        // A listed call fails, and reaches nothing.
         ensures fails { IsListed self.old.calls → IsErr result }
         ensures kept { IsListed self.old.calls → self.new.inner ≡ self.old.inner }
+        // Calls are counted, and so are faults.
         ensures counts { CountsCall self.old.calls self.new.calls }
         ensures cause { HasCause (⟦<Self as Listener>⟧.faults self.old)
             (⟦<Self as Listener>⟧.faults self.new) result }
+        // What was accepted, which is fresh; a failure accepts nothing.
         ensures accepted { IfOk result
             (λ link. L.accepted self.new.inner
             ≡ with_link (L.accepted self.old.inner)

@@ -38,10 +38,12 @@ fn begin(
     mut file: ClusterFile,
     ask: Ask,
 ) -> Result<(Book<MemoryCluster>, Uuid), Memory>
+    // A valid request for a plan that is carried out.
     requires file { IsFile file }
     requires carried { is_dry ask ≡ false }
     requires brokers { ask.brokers ≡ [] }
     requires goals { goals_fault ask ≡ None }
+    // The book with this request alone.
     ensures file { IfOk result (λ r. r.0.file ≡ without_share (file_seen file)) }
     ensures journal { IfOk result (λ r. r.0.journal ≡ Event.Submit ask None ∷ []) }
     ensures id { IfOk result (λ r. r.1 ≡ id_at 0) }

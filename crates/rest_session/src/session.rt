@@ -75,11 +75,14 @@ fn serve_with<X: Asker, K: Copier, L: Link, R: Threads + Sync>(
     mut reader: Reader,
     link: &mut L,
 ) -> LinkEnd
+    // Nothing was read before.
     requires { reader ≡ record { held = []; given = 0; ended = None } }
+    // What was asked, and what the link was answered.
     ensures since { X.since asker.old asker.new }
     ensures served { HasServed (X.known asker.old) (X.known asker.new)
         (copier_of K.copies K.faults copier.old) (copier_of K.copies K.faults copier.new)
         (L.left link.old) (L.written link.old) (L.written link.new) result }
+    // Faults are counted, and an end for a fault has one.
     ensures source { L.Source.faults link.old ≤ L.Source.faults link.new }
     ensures sink { L.Sink.faults link.old ≤ L.Sink.faults link.new }
     ensures read_fault { result ≡ LinkEnd.ReadFault

@@ -74,6 +74,7 @@ pub fn run_session<A: Admin, K: Copier, L: Link, R: Threads + Sync>(
     copier: &mut K,
     link: &mut L,
 ) -> SessionEnd
+    // Nothing was done before.
     requires { book.old.journal ≡ [] }
     // What was done: a session, a Close, a drain.
     ensures since { IsSince A.faults book.old book.new }

@@ -78,6 +78,7 @@ fn framed_head<S: Source>(
     headers: &mut [HeaderSpan],
     source: &mut S,
 ) -> Result<Framed, Stop>
+    // There is room for all headers that a head can have.
     requires room { 5462 ≤ length headers.old }
     // The first head of the stream is framed so.
     ensures framed { IfOk result
@@ -132,6 +133,7 @@ fn take_body<S: Source>(
     len: usize,
     size: usize,
 ) -> Result<Bytes, Stop>
+    // Lengths that a head can have.
     requires len { len ≤ 16384 }
     requires size { size ≤ 1048576 }
     // The body is what stands behind the head.
@@ -178,7 +180,9 @@ pub fn take_request<S: Source>(
     source: &mut S,
     is_last: bool,
 ) -> Result<RawRequest, Stop>
+    // Room for the fields of the longest head.
     requires room { 5462 ≤ length headers.old }
+    // The request, and what is left of the stream.
     ensures taken { IfOk result
         (λ raw. IfSome (stream_of inbox.old.held.items (S.left source.old))
         (λ stream. IfSome (stream_of inbox.new.held.items (S.left source.new))
@@ -187,10 +191,12 @@ pub fn take_request<S: Source>(
     ensures told { OnOk result
         (IsSome (stream_of inbox.old.held.items (S.left source.old))
         → IsSome (stream_of inbox.new.held.items (S.left source.new))) }
+    // Why there is none.
     ensures why { IfErr result
         (λ e. IfSome (stream_of inbox.old.held.items (S.left source.old))
         (λ stream. StopsBy stream e)) }
     ensures cause { HasReadCause (S.faults source.old) (S.faults source.new) result }
+    // Nothing else changes.
     ensures beside { S.beside source.new ≡ S.beside source.old }
 {
     let Framed { head, len, size } = framed_head(alloc, inbox, headers, source)?;

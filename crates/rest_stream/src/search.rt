@@ -95,6 +95,7 @@ fn look_or_read<S: Source>(
     source: &mut S,
     is_due: bool,
 ) -> Result<Option<RequestSpans>, Stop>
+    // There is room for all headers that a head can have, and a look at a full inbox is due.
     requires room { 5462 ≤ length headers.old }
     requires due { 16384 ≤ length inbox.old.held.items → IsTrue is_due }
     // A head that was found stands in front.
