@@ -103,8 +103,8 @@ impl<B: Journaled> BookTable<B> {
         requires same { place.old.table_id ≡ self.now.inner.shared.table_id }
         requires may { MayEnd B.opening B.journal B.blamed self.now.inner.shared.key.value
             place.old.me book }
-        ensures freed { (place.new.table_id ≡ place.old.table_id)
-            × (place.new.me ≡ (freed place.old.me.0, [])) }
+        ensures table { place.new.table_id ≡ place.old.table_id }
+        ensures freed { place.new.me ≡ (freed place.old.me.0, []) }
         ensures placed { ArePlaced place.new.me.0.seen place.new.me.0.mine }
     {
         match self.inner.shared.exchange(place, BOOK, Some(book)) {
@@ -117,12 +117,17 @@ impl<B: Journaled> BookTable<B> {
 
     // Gives the book's last entry its place in the history.
     fn publish(&self, place: &mut Place<B>, book: B, count: u64) -> B
-        requires own { (place.old.table_id ≡ self.now.inner.shared.table_id)
-            × (0 < place.old.me.0.parts) × (place.old.me.0.holds ≡ true) }
-        requires count { (count ≡ length place.old.me.0.seen) × (count < 2 ^ 63) }
+        // The seat holds the turn, and the book has one entry more than was counted.
+        requires same { place.old.table_id ≡ self.now.inner.shared.table_id }
+        requires parts { 0 < place.old.me.0.parts }
+        requires holds { place.old.me.0.holds ≡ true }
+        requires count { count ≡ length place.old.me.0.seen }
+        requires few { count < 2 ^ 63 }
         requires entry { HasOneMore B.journal place.old.me.0.seen book }
-        ensures same { (result ≡ book) × (place.new.table_id ≡ place.old.table_id)
-            × (place.new.me.1 ≡ place.old.me.1) }
+        // The entry is the seat's own, and nothing else changes.
+        ensures book { result ≡ book }
+        ensures table { place.new.table_id ≡ place.old.table_id }
+        ensures hand { place.new.me.1 ≡ place.old.me.1 }
         ensures entry { IsPublished (B.journal book) place.old.me.0 place.new.me.0 }
     {
         let held = Some(book);
@@ -194,8 +199,8 @@ impl<B: Journaled> BookTable<B> {
             self.now.inner.shared.key.value place.new.table_id place.new.me }
         ensures new { IsSeatOf B.opening self.now.inner.shared.table_id
             self.now.inner.shared.key.value result.table_id result.me }
-        ensures views { (place.new.me.0 ≡ one_less place.old.me.0)
-            × (result.me.0 ≡ told place.old.me.0) }
+        ensures less { place.new.me.0 ≡ one_less place.old.me.0 }
+        ensures told { result.me.0 ≡ told place.old.me.0 }
     {
         self.inner.shared.split_seat::<OnePart<B>>(place)
     }
@@ -209,8 +214,8 @@ impl<B: Journaled> BookTable<B> {
         ensures own { IsSeatOf B.opening self.now.inner.shared.table_id
             self.now.inner.shared.key.value place.new.table_id place.new.me }
         ensures view { place.new.me.0 ≡ settled (joined place.old.me.0 other.me.0) }
-        ensures longer { IsPrefix place.old.me.0.seen place.new.me.0.seen
-            × IsPrefix other.me.0.seen place.new.me.0.seen }
+        ensures longer { IsPrefix place.old.me.0.seen place.new.me.0.seen }
+        ensures others { IsPrefix other.me.0.seen place.new.me.0.seen }
     {
         self.inner.shared.join_seat::<Both<B>>(place, other);
         self.inner.shared.load::<Compare<B>>(place, COUNT);
@@ -220,7 +225,8 @@ impl<B: Journaled> BookTable<B> {
     pub fn stir_if(&self, place: &mut Place<B>, stirs: bool)
         requires own { IsSeatOf B.opening self.now.inner.shared.table_id
             self.now.inner.shared.key.value place.old.table_id place.old.me }
-        ensures { (place.new.table_id ≡ place.old.table_id) × (place.new.me ≡ place.old.me) }
+        ensures table { place.new.table_id ≡ place.old.table_id }
+        ensures kept { place.new.me ≡ place.old.me }
     {
         if stirs {
             self.inner.shared.fetch_add::<Stir<B>>(place, STIRS, 1);
@@ -232,7 +238,8 @@ impl<B: Journaled> BookTable<B> {
     pub fn stirs(&self, place: &mut Place<B>) -> u64
         requires own { IsSeatOf B.opening self.now.inner.shared.table_id
             self.now.inner.shared.key.value place.old.table_id place.old.me }
-        ensures { (place.new.table_id ≡ place.old.table_id) × (place.new.me ≡ place.old.me) }
+        ensures table { place.new.table_id ≡ place.old.table_id }
+        ensures kept { place.new.me ≡ place.old.me }
     {
         self.inner.shared.load::<Stir<B>>(place, STIRS)
     }

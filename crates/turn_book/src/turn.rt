@@ -56,7 +56,8 @@ impl<B: Journaled> Drop for Pass<B> {
 
 impl<B: Journaled> Pass<B> {
     fn into_place(self) -> Place<B>
-        ensures { (self ≡ known_of result.table_id result.me.0) × IsIdle result.me }
+        ensures known { self ≡ known_of result.table_id result.me.0 }
+        ensures idle { IsIdle result.me }
     {
         let Self { place, stirs: _ } = self;
         place

@@ -9,4 +9,7 @@ pub load-requires : goal.load-requires
 load-requires g c = let J = g.B.Journaled in (search rules, search rules, compares J.opening J.journal J.blamed c.args.self.now.inner.shared.key.value _ _ _)
 
 pub returns-clause-longer : goal.returns-clause-longer
-returns-clause-longer g c = let J = g.B.Journaled in told_longer J.opening J.journal J.blamed c.args.self.now.inner.shared.key.value c.args.place.now.me.0 c.args.other.me.0 c.join_seat.new.seat.me c.load.new.seat.me _ (ap (λ m. m.0) c.join_seat.ensures.2) c.load.ensures.2
+returns-clause-longer g c = let J = g.B.Journaled in (told_longer J.opening J.journal J.blamed c.args.self.now.inner.shared.key.value c.args.place.now.me.0 c.args.other.me.0 c.join_seat.new.seat.me c.load.new.seat.me _ (ap (λ m. m.0) c.join_seat.ensures.2) c.load.ensures.2).0
+
+pub returns-clause-others : goal.returns-clause-others
+returns-clause-others g c = let J = g.B.Journaled in (told_longer J.opening J.journal J.blamed c.args.self.now.inner.shared.key.value c.args.place.now.me.0 c.args.other.me.0 c.join_seat.new.seat.me c.load.new.seat.me _ (ap (λ m. m.0) c.join_seat.ensures.2) c.load.ensures.2).1

@@ -5,9 +5,8 @@ use Rattle.turn_book.proofs.table.BookTable.publish.Goals as goal
 pub compare_exchange_with-requires : goal.compare_exchange_with-requires
 compare_exchange_with-requires g c =
     let J = g.B.Journaled in
-    let start = c.args.self.now.inner.shared.key.value in
-    let own = c.requires.own in (
+    let start = c.args.self.now.inner.shared.key.value in (
       search rules,
       search rules,
-      publishes_entry J.opening J.journal J.blamed start _ _ c.args.count c.args.place.now.me c.args.book c.requires.entry.0 own.1 own.2 c.requires.count.0 c.requires.entry.1,
+      publishes_entry J.opening J.journal J.blamed start _ _ c.args.count c.args.place.now.me c.args.book c.requires.entry.0 c.requires.parts c.requires.holds c.requires.count c.requires.entry.1,
     )
