@@ -657,7 +657,6 @@ impl Exec {
     pub fn state_is_valid(&self)
         ensures { IsValid self.now }
     {
-        // what the type keeps is known once a field is read
         let _caps = self.caps;
     }
 
