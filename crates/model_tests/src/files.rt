@@ -561,7 +561,7 @@ fn gives_each_member(rt: HostRuntime) {
 fn gives_least_leaders(rt: HostRuntime) {
     let alloc = rt.alloc();
     let (before, behind) = FLOORS;
-    let text = format!(in alloc; "{before}[{{\"topic\":\"t\",\"leaders\":3}}]{behind}");
+    let text = format!(in alloc; r#"{before}[{{"topic":"t","leaders":3}}]{behind}"#);
     let text = text.expect(&rt, "memory");
     let file = cluster(alloc, text.as_str()).expect(&rt, "cluster");
     match file.case.options().min_leaders.as_slice() {

@@ -27,7 +27,7 @@ fn small(rt: &impl Abort, alloc: Global, state: &str) -> ClusterFile
     ensures { IsFile result }
 {
     let (before, behind) = SMALL;
-    let text = format!(in alloc; "{before}\"{state}\"{behind}").expect(rt, "memory");
+    let text = format!(in alloc; r#"{before}"{state}"{behind}"#).expect(rt, "memory");
     cluster(alloc, text.as_str()).expect(rt, "cluster")
 }
 

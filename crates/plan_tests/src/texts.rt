@@ -33,8 +33,8 @@ fn writes_the_trace_that_it_read(rt: HostRuntime) -> Result<(), Fail> {
     let alloc = rt.alloc();
     let compact =
         r#"{"result":"FAILED","turns":[{"actions":[["MOVE",4294967295,0,1],["LEAD",2,3],["SWAP",4,5,6,7]],"goal":"RackAwareGoal"}],"version":1}"#;
-    let loose =
-        "{ \"version\": 1, \"by\": [null], \"turns\": [{\"goal\": \"RackAwareGoal\", \"left\": 0.5,\n \"actions\": [[\"MOVE\", 4294967295, 0, 1], [\"LEAD\", 2, 3], [\"SWAP\", 4, 5, 6, 7]]}], \"result\": \"FAILED\" }";
+    let loose = r#"{ "version": 1, "by": [null], "turns": [{"goal": "RackAwareGoal", "left": 0.5,
+ "actions": [["MOVE", 4294967295, 0, 1], ["LEAD", 2, 3], ["SWAP", 4, 5, 6, 7]]}], "result": "FAILED" }"#;
     for text in [compact, loose] {
         let Ok(trace) = read_trace(alloc, text.as_bytes()) else {
             return Err(Fail::from("no trace"));
