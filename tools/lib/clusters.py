@@ -68,7 +68,7 @@ class Partition:
 
 @dataclass
 class Settings:
-    """The settings that goals read, with their defaults."""
+    """The settings that goals read, and the caps, with their defaults."""
 
     limits: list
     balances: list
@@ -76,6 +76,10 @@ class Settings:
     leaders: Ratio
     topics: Ratio
     max_replicas: int
+    # How many tasks may be in flight that add or remove one broker, that move replicas, and that change leaders alone.
+    broker_cap: int
+    cluster_cap: int
+    leader_cap: int
 
 
 @dataclass
@@ -158,6 +162,7 @@ def read_broker(value, capacities):
 
 def read_settings(config):
     ratio = lambda name, default: Ratio.read(config.get(name, default))
+    number = lambda name, default: whole(int(config.get(name, default)))
     words = ("cpu", "network.inbound", "network.outbound", "disk")
     return Settings(
         limits=[ratio(f"{word}.capacity.threshold", "0.80") for word in words],
@@ -165,7 +170,10 @@ def read_settings(config):
         replicas=ratio("replica.count.balance.threshold", "1.10"),
         leaders=ratio("leader.replica.count.balance.threshold", "1.10"),
         topics=ratio("topic.replica.count.balance.threshold", "3.00"),
-        max_replicas=whole(int(config.get("max.replicas.per.broker", 10000))),
+        max_replicas=number("max.replicas.per.broker", 10000),
+        broker_cap=number("num.concurrent.partition.movements.per.broker", 10),
+        cluster_cap=number("max.num.cluster.movements", 1250),
+        leader_cap=number("num.concurrent.leader.movements", 1000),
     )
 
 

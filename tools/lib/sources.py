@@ -1,16 +1,25 @@
-"""What Kafka's and Cruise Control's tools say of a cluster, and the cluster file that it makes."""
+"""What Kafka's and Cruise Control's tools, brokers and an operator's metrics say of a cluster, and the cluster file that it makes."""
+import csv
 import json
 import math
 import re
+from dataclasses import dataclass, field
 
 from clusters import RESOURCES, STATES, Fault, replicas_of, text
 
 LIMITS = (("brokers", 200), ("topics", 1000), ("partitions", 10000))
+MEGABYTE, KILOBYTE = 1 << 20, 1 << 10
+# The columns of a table of loads, beside topic and partition.
+BYTES_IN, BYTES_OUT, CPU, FOLLOWER_CPU = "bytes_in", "bytes_out", "cpu", "follower_cpu"
+COLUMNS = (BYTES_IN, BYTES_OUT, CPU, FOLLOWER_CPU)
+# CPU is written in hundredths of a percent where a table has it: one partition seldom takes a whole one.
+CPU_SCALE = 100
+MOST_NAMED = 20
 # The members of Cruise Control's /load that are capacities, by resource.
 CAPACITIES = {"DISK": "DiskCapacityMB", "NW_IN": "NetworkInCapacity", "NW_OUT": "NetworkOutCapacity"}
 
 
-def field(line, name):
+def word_behind(line, name):
     """The value behind a name on a line of kafka-topics.sh, or None."""
     found = re.search(rf"(?:^|[\t ]){name}:[\t ]*([^\t ]*)", line)
     return found and found[1]
@@ -40,12 +49,101 @@ def capacity_of(values, what):
     return {name: str(read.get(name, whole)(value, f"{name} of {what}")) for name, value in found.items()}
 
 
+def names_of(items):
+    """Names in one line, the first few of them where there are many."""
+    items = [it if isinstance(it, str) else f"{it[0]}-{it[1]}" for it in items]
+    rest = f" and {len(items) - MOST_NAMED} more" if len(items) > MOST_NAMED else ""
+    return ", ".join(items[:MOST_NAMED]) + rest
+
+
+def nearest(value):
+    return math.floor(value + 0.5)
+
+
+@dataclass
+class Loads:
+    """What is known of partitions' loads: bytes on disk by partition and broker, and the rows of a table by partition."""
+
+    sizes: dict = field(default_factory=dict)
+    rows: dict = field(default_factory=dict)
+    columns: tuple = ()
+    has_sizes: bool = False
+
+    def take_size(self, key, broker, size):
+        held = self.sizes.setdefault(key, {})
+        held[broker] = held.get(broker, 0) + size
+
+    def disk(self, key, replicas):
+        """Megabytes of the leader and of a follower, rounded up; of what isn't known the other's."""
+        known = self.sizes.get(key, {})
+        others = [known[id] for id in replicas[1:] if id in known]
+        leader = known.get(replicas[0], max(others, default=0))
+        return tuple(-(-size // MEGABYTE) for size in (leader, max(others, default=leader)))
+
+    def of(self, key, replicas):
+        """The partition's 'load', or nothing where nothing is known of it."""
+        leader, follower = {}, {}
+        row = self.rows.get(key, {})
+        if BYTES_IN in row:
+            leader["NW_IN"] = follower["NW_IN"] = nearest(row[BYTES_IN] / KILOBYTE)
+        if BYTES_OUT in row:
+            leader["NW_OUT"] = nearest(row[BYTES_OUT] / KILOBYTE)
+        for name, side in ((CPU, leader), (FOLLOWER_CPU, follower)):
+            if name in row:
+                side["CPU"] = nearest(row[name] * CPU_SCALE)
+        if set(self.sizes.get(key, {})) & set(replicas):
+            leader["DISK"], follower["DISK"] = self.disk(key, replicas)
+        return {name: side for name, side in (("leader", leader), ("follower", follower)) if side}
+
+    def notes(self, partitions):
+        """What is missing, by name."""
+        found = []
+        missing = lambda known: [key for key in sorted(partitions) if key not in known]
+        if self.has_sizes:
+            sized = {key for key, (replicas, _) in partitions.items() if set(self.sizes.get(key, {})) & set(replicas)}
+            if missing(sized):
+                found.append(f"partitions whose size isn't known, which have no DISK: {names_of(missing(sized))}")
+        if not self.columns:
+            return found
+        if missing(self.rows):
+            found.append(f"partitions that the table of loads doesn't name: {names_of(missing(self.rows))}")
+        strangers = [key for key in sorted(self.rows) if key not in partitions]
+        if strangers:
+            found.append(f"partitions of the table of loads that the cluster hasn't got: {names_of(strangers)}")
+        for name in COLUMNS:
+            lacking = [key for key in sorted(self.rows) if key in partitions and name not in self.rows[key]]
+            if name not in self.columns:
+                found.append(f"the table of loads has no column {name}")
+            elif lacking:
+                found.append(f"partitions without a number for {name} in the table of loads: {names_of(lacking)}")
+        if self.has_cpu:
+            found.append("CPU is in hundredths of a percent, in loads and capacities")
+        return found
+
+    @property
+    def has_cpu(self):
+        return CPU in self.columns or FOLLOWER_CPU in self.columns
+
+
+def load_number(value, line, name):
+    """A number of a table, or None where the cell is empty or says that there is none."""
+    if value is None or value.strip().lower() in ("", "nan"):
+        return None
+    try:
+        number = float(value)
+    except ValueError:
+        number = -1.0
+    if not 0 <= number < 2**42:
+        raise Fault(f"line {line} of the table of loads: {name} is {value!r}, and a number that isn't negative is wanted")
+    return number
+
+
 class Found:
-    """What was found so far: partitions with their replicas, and brokers with rack, state and capacity."""
+    """What was found so far: partitions with their replicas and loads, and brokers with rack, state and capacity."""
 
     def __init__(self):
         self.partitions, self.brokers, self.capacities, self.notes = {}, {}, {}, []
-        self.reassigned = 0
+        self.reassigned, self.loads = 0, Loads()
 
     def broker(self, id):
         return self.brokers.setdefault(id, {"id": id})
@@ -56,10 +154,10 @@ class Found:
     def take_described(self, lines):
         """Lines of 'kafka-topics.sh --describe': those of a partition have 'Partition:' and 'Replicas:'."""
         for at, line in enumerate(lines.splitlines(), 1):
-            topic, number, replicas = (field(line, name) for name in ("Topic", "Partition", "Replicas"))
+            topic, number, replicas = (word_behind(line, name) for name in ("Topic", "Partition", "Replicas"))
             if number is None or replicas is None:
                 continue
-            leader = field(line, "Leader") or ""
+            leader = word_behind(line, "Leader") or ""
             self.reassigned += bool(re.search(r"(Adding|Removing) Replicas:[\t ]*\d", line))
             try:
                 members = [int(id) for id in replicas.split(",")]
@@ -124,6 +222,50 @@ class Found:
         if rack is not None:
             broker["rack"] = str(rack)
 
+    def take_log_dirs(self, lines):
+        """What 'kafka-log-dirs.sh --describe' prints: a line of JSON after some of text."""
+        line = next((it for it in lines.splitlines() if it.lstrip().startswith("{")), None)
+        if line is None:
+            raise Fault("no line is JSON: what 'kafka-log-dirs.sh --describe' prints is wanted")
+        try:
+            for broker in json.loads(line)["brokers"]:
+                for folder in broker["logDirs"]:
+                    self.take_log_dir(int(broker["broker"]), folder)
+        except (KeyError, TypeError, ValueError, AttributeError) as fault:
+            raise Fault(f"that isn't what 'kafka-log-dirs.sh --describe' prints: {type(fault).__name__} {fault}") from fault
+        self.loads.has_sizes = True
+
+    def take_log_dir(self, broker, folder):
+        if folder.get("error"):
+            self.notes.append(f"broker {broker} can't read {folder.get('logDir')}: {folder['error']}")
+        for it in folder["partitions"]:
+            topic, dash, number = text(it["partition"]).rpartition("-")
+            if not dash or type(it["size"]) is not int or it["size"] < 0:
+                raise ValueError(f"{it!r} is no size of a partition")
+            if not it.get("isFuture", False):
+                self.loads.take_size((topic, int(number)), broker, it["size"])
+
+    def take_loads(self, lines):
+        """A table of loads: CSV with a line of names, of which topic and partition are wanted and at least one other."""
+        rows = csv.DictReader(lines.splitlines())
+        names = [(name or "").strip() for name in rows.fieldnames or ()]
+        unknown = [name for name in names if name not in ("topic", "partition", *COLUMNS)]
+        given = tuple(name for name in COLUMNS if name in names)
+        if unknown or not {"topic", "partition"} <= set(names) or not given or len(set(names)) < len(names):
+            raise Fault(f"the table of loads begins with {', '.join(names)}: topic, partition and some of {', '.join(COLUMNS)} are wanted")
+        rows.fieldnames, self.loads.columns = names, given
+        for row in rows:
+            self.take_load_row(row, rows.line_num)
+
+    def take_load_row(self, row, line):
+        if None in row or not (row["partition"] or "").strip().isdecimal():
+            raise Fault(f"line {line} of the table of loads is none: {', '.join(names_of([str(it)]) for it in row.values())[:80]}")
+        key = (row["topic"].strip(), int(row["partition"]))
+        if key in self.loads.rows:
+            raise Fault(f"line {line} of the table of loads: {names_of([key])} stands there twice")
+        numbers = {name: load_number(row[name], line, name) for name in self.loads.columns}
+        self.loads.rows[key] = {name: number for name, number in numbers.items() if number is not None}
+
     def told_leaders(self):
         return sum(leader is not None and leader != replicas[0] for replicas, leader in self.partitions.values())
 
@@ -138,6 +280,7 @@ class Found:
         others = self.told_leaders()
         if others:
             self.notes.append(f"partitions that another replica leads than their first, which the file takes as the leader: {others}")
+        self.notes += self.loads.notes(self.partitions)
         if not any("rack" in it for it in self.brokers.values()):
             self.notes.append("no rack is known, so each broker is a rack of its own")
         counts = (len(self.brokers), len({topic for topic, _ in self.partitions}), len(self.partitions))
@@ -156,9 +299,18 @@ class Found:
         self.note(brokers)
         value = {"version": 1, "brokers": [self.brokers[id] for id in brokers]}
         if self.capacities:
-            value["brokerCapacities"] = [{"brokerId": str(id), "capacity": it} for id, it in sorted(self.capacities.items())]
-        value["partitions"] = [{"topic": topic, "partition": number, "replicas": it[0]} for (topic, number), it in sorted(self.partitions.items())]
+            value["brokerCapacities"] = [{"brokerId": str(id), "capacity": self.scaled(it)} for id, it in sorted(self.capacities.items())]
+        value["partitions"] = [self.entry(*key, replicas) for key, (replicas, _) in sorted(self.partitions.items())]
         return value
+
+    def scaled(self, capacity):
+        """A capacity, with CPU in the unit of the loads."""
+        return {**capacity, "CPU": str(int(capacity["CPU"]) * CPU_SCALE)} if self.loads.has_cpu else capacity
+
+    def entry(self, topic, number, replicas):
+        entry = {"topic": topic, "partition": number, "replicas": replicas}
+        load = self.loads.of((topic, number), replicas)
+        return {**entry, "load": load} if load else entry
 
 
 def text_of(cluster):
