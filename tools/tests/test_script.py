@@ -1,6 +1,8 @@
 """The script sumpharu, run over a tree of its own with a prover that only pretends: 'rt' is a few lines of shell here."""
+import contextlib
 import os
 import pathlib
+import pty
 import re
 import shutil
 import signal
@@ -31,6 +33,7 @@ version)
     [ ! -e "$control/swap" ] || mv "$control/swap" "$(cat "$control/where")"
     ;;
 all)
+    [ ! -e "$control/blocks" ] || { . "$control/blocks"; exit 0; }
     echo "== base"; echo "== sumpharu"; echo "== summary"
     [ ! -e "$control/killed" ] || { echo 'base: failed (-9)'; exit 1; }
     ;;
@@ -82,7 +85,7 @@ class Script(unittest.TestCase):
         path = f"{self.room}/bin:{path}" if prover else path
         env = {"PATH": path, "CONTROL": str(self.control), "STATUS": str(status), **how.pop("env", {})}
         pipes = {"stdin": subprocess.PIPE, "stdout": subprocess.PIPE, "stderr": subprocess.PIPE, "text": True}
-        return subprocess.Popen([script or self.tree / "sumpharu", *words], env=env, cwd=cwd or self.room, **pipes, **how)
+        return subprocess.Popen([script or self.tree / "sumpharu", *words], env=env, cwd=cwd or self.room, **{**pipes, **how})
 
     def run_script(self, *words, given="", **how):
         ran = self.start(*words, **how)
@@ -127,6 +130,65 @@ class Script(unittest.TestCase):
             change()
             self.assertTrue(self.plan()[1].startswith("two:"))
             self.assertEqual(self.calls("run"), 3 + number)
+
+    def write_blocks(self, text):
+        """What the prover prints of three crates, of which two stand on one another, while each look at the clock takes a minute."""
+        (self.tree / "crates.txt").write_text("base:\nside: base\nsumpharu: base side\n")
+        (self.tree / "crates/side/src").mkdir(parents=True)
+        for name, size in (("base", 9000), ("side", 8000)):
+            (self.tree / f"crates/{name}/src/lib.rt").write_text("-" * size)
+        (self.control / "blocks").write_text(text)
+        clock = self.room / "bin/date"
+        clock.write_text('#!/bin/sh\necho x >>"$CONTROL/looks"\nexpr 60 \\* "$(wc -l <"$CONTROL/looks")"\n')
+        clock.chmod(0o755)
+
+    def test_what_a_build_says_while_it_goes(self):
+        """Each crate of how many, and the minutes that are left, by the sizes of those that were proved, and with none before one was."""
+        proved = "echo '== base'; echo 'fn f: proved'; echo '== side'; echo 'fn f: proved'; echo '== sumpharu'; echo 'fn f: proved'; echo '== summary'"
+        self.write_blocks(proved)
+        lines = lambda err: re.findall("(?m)^sumpharu: checked (.*)$", err)
+        # 9000 were proved in 61 seconds, and 9000 and 2004 are left; then 18000 in 181 seconds, and 2004
+        err = self.plan(env={"SUMPHARU_JOBS": "1"})[2]
+        self.assertEqual(lines(err), ["1 of 3: base; about 2 min left", "2 of 3: side; about 1 min left", "3 of 3: sumpharu"])
+        kept = proved.replace("echo '== base'; echo 'fn f: proved'", "echo '== base'")
+        self.write("two")
+        (self.control / "blocks").write_text(kept)
+        err = self.plan(env={"SUMPHARU_JOBS": "1"})[2]
+        self.assertEqual(lines(err), ["1 of 3: base", "2 of 3: side; about 1 min left", "3 of 3: sumpharu"])
+        # what stands on one another can't be proved side by side: 11004 of base's 9000 and half as much beside it
+        self.write("one")
+        (self.control / "blocks").write_text(proved)
+        err = self.plan(env={"SUMPHARU_JOBS": "9"})[2]
+        self.assertEqual(lines(err)[0], "1 of 3: base; about 7 min left")
+        log = self.tree / "crates/sumpharu/out/sumpharu.log"
+        self.assertTrue(log.read_text().startswith("== base\nfn f: proved\n== side\n"))
+
+    def test_what_a_terminal_shows(self):
+        """One line, which is written anew, also where the time alone went on."""
+        self.write_blocks("echo '== base'; echo 'fn f: proved'; /bin/sleep 2; echo '== side'; echo '== sumpharu'; echo '== summary'")
+        (self.tree / "crates/sumpharu/src/main.rt").write_text("-" * 90000)
+        nap = self.room / "bin/sleep"
+        nap.write_text("#!/bin/sh\n/bin/sleep 0.5\n")
+        nap.chmod(0o755)
+        ours, theirs = pty.openpty()
+        ran = self.start("plan", "x", env={"SUMPHARU_JOBS": "1"}, stderr=theirs)
+        os.close(theirs)
+        ran.communicate("", timeout=60)
+        shown = b""
+        with contextlib.suppress(OSError):
+            while True:
+                shown += os.read(ours, 65536)
+        os.close(ours)
+        lines = shown.decode().split("\r\n")
+        moved = next(line for line in lines if "checked" in line).split("\r\033[K")
+        told = [it for it in moved if it.startswith("sumpharu: checked 1 of 3: base; about ")]
+        minutes = [int(it.split(" ")[-3]) for it in told]
+        self.assertGreater(len({*minutes}), 1)
+        self.assertEqual(minutes, sorted(minutes, reverse=True))
+        self.assertEqual(moved[0], "")
+        self.assertRegex(moved[-2], "^sumpharu: checked 2 of 3: side; about [0-9]+ min left$")
+        self.assertEqual(moved[-1], "sumpharu: checked 3 of 3: sumpharu")
+        self.assertEqual(lines[2:], ["sumpharu: compiling the program", ""])
 
     def test_a_failed_build_runs_nothing(self):
         self.plan()
