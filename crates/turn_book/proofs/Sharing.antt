@@ -199,7 +199,7 @@ module _ {B O E : Type 0} (opening : B → O) (journal : B → List E) (blamed :
       (f.knows j u e).idle (omega (arith, f.parts))
 
   closes_hand : (table : TableId) (hand : Hand B) (log : List E) (faults : ℕ) (views : List (View O E)) (id : ℕ) (v : View O E) → F hand log faults views → get_elem? views id ≡ some v → v.parts ≡ 1048576 → v.holds ≡ false
-      → (b : B) × (hand ≡ at_home b) × IsWhole opening journal blamed start (known_of table v) b
+      → (b : B) × (hand ≡ at_home b) × IsWhole opening journal blamed start (known_of table v 0) b
   closes_hand table (at_home b) log faults views id v f at all free =
       let K = f.knows id v at in
       let whole = f.book.1 in (
@@ -221,7 +221,7 @@ module _ {B O E : Type 0} (opening : B → O) (journal : B → List E) (blamed :
       no_holder (yes e) = let same : f.held.0 ≡ v = some-injective f.held.0 v (sym f.held.1 ∙ (ap (get_elem? views) e ∙ at)) in true≢false (sym f.held.2 ∙ (ap (λ (t : View O E). t.holds) same ∙ free))
       no_holder (no ne) = true≢false (sym f.held.2 ∙ (idle_rest (out j) log faults views id v f at all j f.held.0 ne f.held.1).1)
 
-  pub closes : (table : TableId) (ws : List ℕ) (xs : List (Option B)) (id : ℕ) (v : View O E) → Final (Seen R id v) ws xs → v.parts ≡ 1048576 → v.holds ≡ false → (b : B) × (get_elem? xs 0 ≡ some (Some b)) × IsWhole opening journal blamed start (known_of table v) b
+  pub closes : (table : TableId) (ws : List ℕ) (xs : List (Option B)) (id : ℕ) (v : View O E) → Final (Seen R id v) ws xs → v.parts ≡ 1048576 → v.holds ≡ false → (b : B) × (get_elem? xs 0 ≡ some (Some b)) × IsWhole opening journal blamed start (known_of table v 0) b
   closes table ws xs id v final all free =
       let k = final.1.0 in
       let at = sym (ap (λ (t : State (Option B) (View O E)). get_elem? t.views id) k.state) ∙ final.1.1 in
@@ -237,9 +237,9 @@ module _ {B O E : Type 0} (opening : B → O) (journal : B → List E) (blamed :
       let same : longer v.seen w.seen ≡ r.0.seen = sym (ap (λ (t : Seated B O E). t.0.seen) c.view ∙ ap (λ (u : View O E). u.seen) is) in
       (subst (λ l. IsPrefix v.seen l) same (longer_left v.seen w.seen log p q), subst (λ l. IsPrefix w.seen l) same (longer_right v.seen w.seen log p q))
 
-  pub closes_as : (table : TableId) (ws : List ℕ) (xs : List (Option B)) (id : ℕ) (v : View O E) (slot : Option B) (book : B) → Final (Seen R id v) ws xs → v.parts ≡ 1048576 → v.holds ≡ false → get_elem? xs 0 ≡ some slot → slot ≡ Some book → IsWhole opening journal blamed start (known_of table v) book
+  pub closes_as : (table : TableId) (ws : List ℕ) (xs : List (Option B)) (id : ℕ) (v : View O E) (slot : Option B) (book : B) → Final (Seen R id v) ws xs → v.parts ≡ 1048576 → v.holds ≡ false → get_elem? xs 0 ≡ some slot → slot ≡ Some book → IsWhole opening journal blamed start (known_of table v 0) book
   closes_as table ws xs id v slot book final all free at is =
       let c = closes table ws xs id v final all free in
       let same : Some c.0 ≡ slot = some-injective (Some c.0) slot (sym c.1 ∙ at) in
       let book_is : c.0 ≡ book = cc (same, is) in
-      subst (λ (b : B). IsWhole opening journal blamed start (known_of table v) b) book_is c.2
+      subst (λ (b : B). IsWhole opening journal blamed start (known_of table v 0) b) book_is c.2

@@ -11,7 +11,8 @@ pub record Made (B : Type 0) : Type 0 where
   pub table : TableId
   pub start : B
 
--- what a pass knows: whose it is, the opening, the history that was seen, its own entries with their places, its parts, and the last blame
+-- what a pass knows: whose it is, the opening, the history that was seen, its own entries with their places, its parts, the last blame, and
+-- the number of stirs that it noted when it last rested
 pub record Known (O E : Type 0) : Type 0 where
   pub table : TableId
   pub from : Option O
@@ -19,10 +20,11 @@ pub record Known (O E : Type 0) : Type 0 where
   pub mine : List (ℕ × E)
   pub parts : ℕ
   pub last : ℕ
+  pub noted : ℕ
 
--- what callers see of a view
-abbrev pub known_of : {O E : Type 0} → TableId → View O E → Known O E
-known_of table v = record { table = table; from = v.opening; seen = v.seen; mine = v.mine; parts = v.parts; last = v.last }
+-- what callers see of a view, and of the number that was noted
+abbrev pub known_of : {O E : Type 0} → TableId → View O E → ℕ → Known O E
+known_of table v noted = record { table = table; from = v.opening; seen = v.seen; mine = v.mine; parts = v.parts; last = v.last; noted = noted }
 
 -- the pass belongs to the turn, and each of its entries stands at its place in what it has seen
 pub record IsPassOf {B O E : Type 0} (opening : B → O) (turn : Made B) (pass : Known O E) : Type 0 where

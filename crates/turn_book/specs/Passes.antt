@@ -14,7 +14,7 @@ pub record IsIdle {B O E : Type 0} (me : Seated B O E) : Type 0 where
 
 -- the idle seat of a pass of the turn that was made with the book `start`
 pub record IsSeatOf {B O E : Type 0} (opening : B → O) (table : TableId) (start : B) (seat : TableId) (me : Seated B O E) : Type 0 where
-  pub known : IsPassOf opening (record { table = table; start = start }) (known_of seat me.0)
+  pub known : IsPassOf opening (record { table = table; start = start }) (known_of seat me.0 0)
   pub idle : IsIdle me
 
 -- the pass holds the turn, and this is the book

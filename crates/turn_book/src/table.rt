@@ -55,7 +55,7 @@ impl<B: Journaled> BookTable<B> {
         ensures first { IfOk result
             (λ t. IsFirst B.opening B.journal
             (record { table = t.0.inner.shared.table_id; start = t.0.inner.shared.key.value })
-            book (known_of t.1.table_id t.1.me.0)) }
+            book (known_of t.1.table_id t.1.me.0 0)) }
         ensures idle { IfOk result (λ t. IsIdle t.1.me) }
         ensures handed_back { IfErr result (λ b. b ≡ book) }
     {
@@ -150,13 +150,13 @@ impl<B: Journaled> BookTable<B> {
             self.now.inner.shared.key.value place.new.table_id place.new.me }
         ensures made { IfOk result
             (HasActed B.reply_of (B.opening self.now.inner.shared.key.value)
-            (known_of place.old.table_id place.old.me.0)
-            (known_of place.new.table_id place.new.me.0) event) }
+            (known_of place.old.table_id place.old.me.0 0)
+            (known_of place.new.table_id place.new.me.0 0) event) }
         ensures refused { IfErr result
             (IsRefused B.blame_of B.is_want B.sure B.outward
             (B.opening self.now.inner.shared.key.value)
-            (known_of place.old.table_id place.old.me.0)
-            (known_of place.new.table_id place.new.me.0) event) }
+            (known_of place.old.table_id place.old.me.0 0)
+            (known_of place.new.table_id place.new.me.0 0) event) }
     {
         let mut book = self.take(rt, place);
         let count = book.entries();
@@ -184,8 +184,8 @@ impl<B: Journaled> BookTable<B> {
         ensures own { IsSeatOf B.opening self.now.inner.shared.table_id
             self.now.inner.shared.key.value place.new.table_id place.new.me }
         ensures length { length place.new.me.0.seen ≡ result }
-        ensures looked { HasLooked (known_of place.old.table_id place.old.me.0)
-            (known_of place.new.table_id place.new.me.0) }
+        ensures looked { HasLooked (known_of place.old.table_id place.old.me.0 0)
+            (known_of place.new.table_id place.new.me.0 0) }
     {
         self.inner.shared.load::<Look<B>>(place, COUNT)
     }
@@ -257,7 +257,7 @@ impl<B: Journaled> BookTable<B> {
             place.table_id place.me }
         requires parts { place.me.0.parts ≡ 1048576 }
         ensures { IsWhole B.opening B.journal B.blamed self.inner.shared.key.value
-            (known_of place.table_id place.me.0) result }
+            (known_of place.table_id place.me.0 0) result }
     {
         let BookTable { inner } = self;
         let mut closed = inner.close_with(place);

@@ -1,4 +1,10 @@
 // The turn and its passes.
+//
+// No wake-up is lost. A pass notes the number of stirs when it is made and at the end of each rest,
+// before it looks at anything. A reply that stirs raises the number once its entry is in the book
+// and the turn is free, and then wakes all. So where a look missed an entry, the number differs or
+// will: `rest` sleeps only while it is the noted one, and is woken by the change. The whole number
+// is compared first, since the wait itself compares its low half.
 ghost use Rattle.std.specs.Prelude.{◌≡◌, ◌<◌, length, IfOk, IfErr};
 ghost use Rattle.turn_book.specs.Known.{known_of, IsPassOf, IsFirst, HasActed, IsRefused, HasLooked, IsCut, HasJoined, IsWhole};
 ghost use Rattle.turn_book.specs.Passes.{IsIdle};
@@ -30,7 +36,7 @@ impl<B: Journaled> Model for Turn<B> {
 /// 1,048,576 parts together.
 pub struct Pass<B: Journaled> {
     place: Place<B>,
-    // The stirs that there were before the last call.
+    // How many stirs there were before it looked at anything since its last rest.
     stirs: u64,
 }
 
@@ -40,7 +46,7 @@ impl<B: Journaled> Model for Pass<B> {
 
     ghost Value = { Known B.Opening B.Event };
 
-    ghost view = { λ p. known_of p.place.table_id p.place.me.0 };
+    ghost view = { λ p. known_of p.place.table_id p.place.me.0 p.stirs };
 
     ghost invariant = { λ p. IsIdle p.place.me };
 }
@@ -56,7 +62,7 @@ impl<B: Journaled> Drop for Pass<B> {
 
 impl<B: Journaled> Pass<B> {
     fn into_place(self) -> Place<B>
-        ensures known { self ≡ known_of result.table_id result.me.0 }
+        ensures known { self ≡ known_of result.table_id result.me.0 self.noted }
         ensures idle { IsIdle result.me }
     {
         let Self { place, stirs: _ } = self;
@@ -101,8 +107,8 @@ impl<B: Journaled> Turn<B> {
         ensures refused { IfErr result
             (IsRefused B.blame_of B.is_want B.sure B.outward (B.opening self.now.start) pass.old
             pass.new event) }
+        ensures noted { pass.new.noted ≡ pass.old.noted }
     {
-        pass.stirs = self.table.stirs(&mut pass.place);
         let reply = self.table.act(rt, &mut pass.place, event)?;
         self.table.stir_if(&mut pass.place, B::stirs(&reply));
         Ok(reply)
@@ -114,18 +120,21 @@ impl<B: Journaled> Turn<B> {
         ensures own { IsPassOf B.opening self.now pass.new }
         ensures length { length pass.new.seen ≡ result }
         ensures looked { HasLooked pass.old pass.new }
+        ensures noted { pass.new.noted ≡ pass.old.noted }
     {
         self.table.learn(&mut pass.place)
     }
 
-    /// May wait for an entry whose reply stirs and that came after the pass's last call. It may
-    /// return at any time.
+    /// May wait for an entry whose reply stirs and that came after the pass began to look: after its
+    /// last rest, or after it was made. It may return at any time.
     pub fn rest<R: Wait>(&self, rt: &R, pass: &mut Pass<B>)
         requires own { IsPassOf B.opening self.now pass.old }
         ensures own { IsPassOf B.opening self.now pass.new }
         ensures looked { HasLooked pass.old pass.new }
     {
-        self.table.rest(rt, pass.stirs);
+        if self.table.stirs(&mut pass.place) == pass.stirs {
+            self.table.rest(rt, pass.stirs);
+        }
         pass.stirs = self.table.stirs(&mut pass.place);
         self.table.learn(&mut pass.place);
     }
@@ -137,12 +146,11 @@ impl<B: Journaled> Turn<B> {
         ensures own { IsPassOf B.opening self.now pass.new }
         ensures new { IsPassOf B.opening self.now result }
         ensures cut { IsCut pass.old pass.new result }
+        ensures noted { pass.new.noted ≡ pass.old.noted }
     {
+        let stirs = self.table.stirs(&mut pass.place);
         let place = self.table.split(&mut pass.place);
-        Pass {
-            place,
-            stirs: pass.stirs,
-        }
+        Pass { place, stirs }
     }
 
     /// Gives the pass all of another's: what it has seen, its entries and its parts.
@@ -151,6 +159,7 @@ impl<B: Journaled> Turn<B> {
         requires other { IsPassOf B.opening self.now other }
         ensures own { IsPassOf B.opening self.now pass.new }
         ensures joined { HasJoined pass.old other pass.new }
+        ensures noted { pass.new.noted ≡ pass.old.noted }
     {
         self.table.join(&mut pass.place, other.into_place());
     }

@@ -1,0 +1,81 @@
+"""Sessions and services with threads that have little to do, each of which has to end within seconds."""
+import concurrent.futures
+import itertools
+import pathlib
+import random
+import subprocess
+from dataclasses import dataclass
+
+import serving
+from clusters import Fault
+
+CLUSTER = pathlib.Path(__file__).resolve().parents[2] / "examples" / "two-brokers.json"
+REMOVAL = b"POST /kafkacruisecontrol/remove_broker?brokerid=0&dryrun=false HTTP/1.1\r\n\r\n"
+ACCEPTED = b"HTTP/1.1 202 Accepted\r\n"
+# How many run at a time.
+AT_ONCE = 4
+
+
+@dataclass(frozen=True)
+class Crew:
+    """The threads beside the front of a run."""
+
+    movers: int
+    planners: int
+
+    def words(self):
+        return ["--movers", str(self.movers), "--planners", str(self.planners)]
+
+    def __str__(self):
+        return f"{self.movers} movers, {self.planners} planners"
+
+
+# 1 to 8 movers, with none, one and two planners.
+CREWS = [Crew(movers, planners) for movers in range(1, 9) for planners in range(3)]
+
+
+def session(program, crew, seconds):
+    """A session that is asked once to remove a broker. What was wrong with it, or nothing."""
+    command = [program, "session", str(CLUSTER), *crew.words()]
+    try:
+        ran = subprocess.run(command, input=REMOVAL, capture_output=True, timeout=seconds)
+    except subprocess.TimeoutExpired:
+        return f"a session with {crew} didn't end in {seconds} seconds"
+    if ran.returncode or ran.stderr or ran.stdout.count(ACCEPTED) != 1:
+        return f"a session with {crew} ended with status {ran.returncode}: {(ran.stderr or ran.stdout).decode(errors='replace')}"
+    return None
+
+
+def service(program, crew, links, seconds):
+    """A service whose links are closed at once, the first behind one request. What was wrong with it, or nothing."""
+    port = serving.free_port()
+    command = [program, "serve", str(CLUSTER), "--listen", f"{serving.HOST}:{port}", "--links", str(links), *crew.words()]
+    with subprocess.Popen(command, stdin=subprocess.DEVNULL, stdout=subprocess.DEVNULL, stderr=subprocess.PIPE) as process:
+        try:
+            for number in range(links):
+                link = serving.connect(process, port, seconds)
+                if not number:
+                    link.send(REMOVAL)
+                link.close()
+            _, line = process.communicate(timeout=seconds)
+        except (subprocess.TimeoutExpired, Fault) as fault:
+            process.kill()
+            return f"a service of {links} links with {crew}: {fault}"
+    return f"a service of {links} links with {crew} ended with status {process.returncode}: {line.decode()}" if process.returncode else None
+
+
+def all_of(calls):
+    """What was wrong with any of the runs, some of which are made at a time."""
+    with concurrent.futures.ThreadPoolExecutor(AT_ONCE) as pool:
+        return [wrong for wrong in pool.map(lambda call: call(), calls) if wrong]
+
+
+def sessions(program, number, seconds):
+    crews = itertools.islice(itertools.cycle(CREWS), number)
+    return all_of([lambda crew=crew: session(program, crew, seconds) for crew in crews])
+
+
+def services(program, number, seconds, seed=1):
+    chance = random.Random(seed)
+    made = [(chance.choice(CREWS), chance.randint(1, 4)) for _ in range(number)]
+    return all_of([lambda crew=crew, links=links: service(program, crew, links, seconds) for crew, links in made])
