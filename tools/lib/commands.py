@@ -1,7 +1,7 @@
 """The commands, their options, and how their runs end: the one table of them.
 
 tools/make-manual makes of it what 'sumpharu help' prints, the manual page, bash's completion and the tables of docs/FORMATS.md. A
-further command is one more row of COMMANDS, with its options in OPTIONS, the ends in STATUSES that are its own, and an example.
+further command is one more row of COMMANDS, with its options in OPTIONS, the ends in ENDS that are its own, and an example.
 """
 from dataclasses import dataclass
 

@@ -14,6 +14,9 @@ UNEVEN_DISKS = '{"version":1,"brokers":[{"id":0},{"id":1}],"brokerCapacities":[{
 # What the lost broker holds is too much for the other.
 TOO_MUCH_TO_EVACUATE = '{"version":1,"brokers":[{"id":0,"state":"DEAD"},{"id":1}],"brokerCapacities":[{"brokerId":"-1","capacity":{"DISK":"100","CPU":"100","NW_IN":"100","NW_OUT":"100"}}],"partitions":[{"topic":"t","partition":0,"replicas":[0],"load":{"leader":{"DISK":90}}}],"config":{"disk.capacity.threshold":"0.80"}}'
 
+# The same where nothing is lost with the broker.
+TOO_MUCH_BESIDE_A_LOST = '{"version":1,"brokers":[{"id":0,"state":"DEAD"},{"id":1}],"brokerCapacities":[{"brokerId":"-1","capacity":{"DISK":"100","CPU":"100","NW_IN":"100","NW_OUT":"100"}}],"partitions":[{"topic":"t","partition":0,"replicas":[1],"load":{"leader":{"DISK":90}}}],"config":{"disk.capacity.threshold":"0.80"}}'
+
 # Each broker may hold one replica, and the leader on the demoted one may not go to the other partition.
 DEMOTED_AND_FULL = '{"version":1,"brokers":[{"id":0,"state":"DEMOTED"},{"id":1}],"brokerCapacities":[{"brokerId":"0","capacity":{"DISK":"100","CPU":"100","NW_IN":"100","NW_OUT":"100"}},{"brokerId":"1","capacity":{"DISK":"300","CPU":"100","NW_IN":"100","NW_OUT":"100"}}],"partitions":[{"topic":"t","partition":0,"replicas":[0],"load":{"leader":{"DISK":30}}},{"topic":"t","partition":1,"replicas":[1],"load":{"leader":{"DISK":10}}}],"config":{"max.replicas.per.broker":"1","disk.balance.threshold":"1.00"}}'
 
@@ -36,6 +39,10 @@ TOO_FEW = '{"failed":"MinTopicLeadersPerBrokerGoal","measure":"2"}\n'
 LED_BY_1 = '{"partitions":[{"partition":0,"replicas":[1,0],"topic":"t"}],"version":1}\n'
 
 EXCHANGED = '{"partitions":[{"partition":0,"replicas":[1],"topic":"t"},{"partition":1,"replicas":[0],"topic":"t"}],"version":1}\n'
+
+LEAD_TRACED = '{"result":"PLANNED","turns":[{"actions":[],"goal":"EvacuationGoal"},{"actions":[["LEAD",0,1]],"goal":"MinTopicLeadersPerBrokerGoal"},{"actions":[],"goal":"DemotionGoal"}],"version":1}\n'
+
+SWAP_TRACED = '{"result":"PLANNED","turns":[{"actions":[],"goal":"EvacuationGoal"},{"actions":[],"goal":"DemotionGoal"},{"actions":[["SWAP",0,0,2,1]],"goal":"DiskUsageDistributionGoal"}],"version":1}\n'
 
 LEAST = "plan cluster --goals MinTopicLeadersPerBrokerGoal --skip-hard-goal-check"
 
@@ -70,6 +77,7 @@ GOALS = [
         "",
     ),
     (DISK, TOO_MUCH_TO_EVACUATE, "", 4, EVACUATED, DISK_LINE),
+    (DISK, TOO_MUCH_BESIDE_A_LOST, "", 4, EVACUATED, DISK_LINE),
     (
         "plan cluster --skip-hard-goal-check --goals=ReplicaCapacityGoal,DiskUsageDistributionGoal",
         DEMOTED_AND_FULL,
@@ -86,10 +94,28 @@ GOALS = [
         EXCHANGED,
         "",
     ),
+    # the planner's own traces of a lead and of a swap
+    (LEAST + " --trace", ONE_LEADER, "", 0, LEAD_TRACED, ""),
+    (
+        "plan cluster --trace --skip-hard-goal-check --goals DiskUsageDistributionGoal --excluded-topics x",
+        UNEVEN_DISKS,
+        "",
+        0,
+        SWAP_TRACED,
+        "",
+    ),
     # the names are refused before the file is looked for
     ("plan none --goals RackAwareGoal", NONE, "", 2, "", USAGE),
     (
         "plan none --skip-hard-goal-check --goals RackAware",
+        NONE,
+        "",
+        2,
+        "",
+        USAGE,
+    ),
+    (
+        "plan none --skip-hard-goal-check --goals EvacuationGoal",
         NONE,
         "",
         2,
@@ -104,6 +130,6 @@ GOALS = [
         "",
         USAGE,
     ),
-    # words that ask for help, and those of a service
+    # words that ask for help
     ("plan --help", NONE, "", 2, "", USAGE),
 ]

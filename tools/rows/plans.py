@@ -26,10 +26,6 @@ DEMOTED_LEADER = '{"version":1,"brokers":[{"id":0,"state":"DEMOTED"},{"id":1,"st
 
 TWICE_BROKER_0 = '{"version":1,"brokers":[{"id":0},{"id":0}],"partitions":[]}'
 
-UNKNOWN_SETTING = '{"version":1,"brokers":[{"id":0}],"partitions":[],"config":{"a":"1"}}'
-
-TWO_DISKS = '{"version":1,"brokers":[{"id":0}],"partitions":[],"brokerCapacities":[{"brokerId":"0","capacity":{"DISK":{"/d":"1"},"CPU":"1","NW_IN":"1","NW_OUT":"1"}}]}'
-
 # Brokers 0 that is lost, 1 that is alive and 2 that is being added, with one partition each.
 STATES = '{"version":1,"brokers":[{"id":0,"state":"DEAD"},{"id":1},{"id":2,"state":"NEW"}],"partitions":[{"topic":"t","partition":0,"replicas":[0]},{"topic":"t","partition":1,"replicas":[1]},{"topic":"t","partition":2,"replicas":[2]}]}'
 
@@ -78,33 +74,6 @@ ROWS = [
     (APPLY, DEMOTED_LEADER, "", 0, LED, ""),
     (PLAN, THREE_ZONES, "", 0, ZONES_PLANNED, ""),
     (APPLY, THREE_ZONES, "", 0, ZONES_APPLIED, ""),
-    # a file with a fault
-    (
-        PLAN,
-        TWICE_BROKER_0,
-        "",
-        3,
-        "",
-        "cluster refused: DuplicateBroker 0\n",
-    ),
-    (PLAN, "{", "", 3, "", "cluster refused: NotJson\n"),
-    (PLAN, "[]", "", 3, "", "cluster refused: WrongShape \n"),
-    (
-        PLAN,
-        UNKNOWN_SETTING,
-        "",
-        3,
-        "",
-        "cluster refused: BadConfig a\n",
-    ),
-    (
-        PLAN,
-        TWO_DISKS,
-        "",
-        3,
-        "",
-        "cluster refused: Unsupported /brokerCapacities/0/capacity/DISK\n",
-    ),
     # the cluster is read before the trace, which is absent
     (
         CHECK,
@@ -115,8 +84,7 @@ ROWS = [
         "cluster refused: DuplicateBroker 0\n",
     ),
     (CHECK, THREE_BROKERS, "", 5, "", "file fault\n"),
-    # no command, and no such file
-    ("plan", THREE_BROKERS, "", 2, "", "usage error\n"),
+    # all goals, and no such file
     ("plan cluster", NO_PARTITION, "", 0, NOTHING, ""),
     (
         "plan none --goals RackAwareGoal --skip-hard-goal-check",
@@ -407,4 +375,55 @@ TRACES = [
         "fault 0 0 ILLEGAL\n",
         REFUSED,
     ),
+    # a loose text, and a partition that there can't be
+    (
+        CHECK,
+        THREE_BROKERS,
+        '{ "version": 1, "by": [null], "turns": [{"goal": "EvacuationGoal", "left": 0.5, "actions": []},\n {"goal": "RackAwareGoal", "actions": [["MOVE", 0, 0, 2]]}, {"actions": [], "goal": "DemotionGoal"}], "result": "PLANNED" }',
+        0,
+        "good\n",
+        "",
+    ),
+    (
+        CHECK,
+        THREE_BROKERS,
+        '{"result":"FAILED","turns":[{"actions":[["MOVE",4294967295,0,1]],"goal":"EvacuationGoal"}],"version":1}',
+        11,
+        "fault 0 0 ILLEGAL\n",
+        REFUSED,
+    ),
+    # the planner's own, of a plan and of a failure
+    (
+        PLAN + " --trace",
+        THREE_BROKERS,
+        "",
+        0,
+        '{"result":"PLANNED","turns":[{"actions":[],"goal":"EvacuationGoal"},{"actions":[["MOVE",0,0,2]],"goal":"RackAwareGoal"},{"actions":[],"goal":"DemotionGoal"}],"version":1}\n',
+        "",
+    ),
+    (
+        PLAN + " --trace",
+        TWO_RACKS_FOR_THREE,
+        "",
+        4,
+        '{"result":"FAILED","turns":[{"actions":[],"goal":"EvacuationGoal"},{"actions":[],"goal":"RackAwareGoal"}],"version":1}\n',
+        RACKS_LINE,
+    ),
+]
+
+# Bytes that are no trace.
+NO_TRACES = [
+    b"",
+    b"{}",
+    b'{"result":"PLANNED","turns":{},"version":1}',
+    b'{"result":"PLANNED","turns":[],"version":2}',
+    b'{"result":"PLANNED","turns":[],"version":1.0}',
+    b'{"result":"PLANNED","turns":[]}',
+    b'{"result":"PLANNED","turns":[{"actions":[],"goal":"NoGoal"}],"version":1}',
+    b'{"result":"PLANNED","turns":[{"goal":"RackAwareGoal"}],"version":1}',
+    b'{"result":"PLANNED","turns":[{"actions":[[]],"goal":"RackAwareGoal"}],"version":1}',
+    b'{"result":"PLANNED","turns":[{"actions":[["MOVE",1,2]],"goal":"RackAwareGoal"}],"version":1}',
+    b'{"result":"PLANNED","turns":[{"actions":[["LEAD",1,4294967296]],"goal":"RackAwareGoal"}],"version":1}',
+    b'{"result":"PLANNED","turns":[{"actions":[["LEAD",1,1.0]],"goal":"RackAwareGoal"}],"version":1}',
+    b'{"result":"PLANNED","turns":[],"version":1,"by":"\xff"}',
 ]

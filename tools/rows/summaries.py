@@ -12,7 +12,14 @@ ONE_DISK_FAILS = "failed DiskCapacityGoal\nproposals 0\nEvacuationGoal 0 0\nDisk
 
 SIX_BROKERS = '{"brokerCapacities":[{"brokerId":"-1","capacity":{"CPU":"10000","DISK":"500000","NW_IN":"50000","NW_OUT":"50000"}}],"brokers":[{"id":0,"rack":"r0"},{"id":1,"rack":"r1"},{"id":2,"rack":"r2"},{"id":3,"rack":"r3"},{"id":4,"rack":"r0"},{"id":5,"rack":"r1"}],"partitions":[],"version":1}\n'
 
-# Clusters that are planned for, and one that is written.
+THREE_BROKERS = '{"brokerCapacities":[{"brokerId":"-1","capacity":{"CPU":"10000","DISK":"500000","NW_IN":"50000","NW_OUT":"50000"}}],"brokers":[{"id":0,"rack":"r0"},{"id":1,"rack":"r1"},{"id":2,"rack":"r2"}],"partitions":[{"load":{"follower":{"CPU":2,"DISK":51,"NW_IN":58},"leader":{"CPU":5,"DISK":51,"NW_IN":58,"NW_OUT":113}},"partition":0,"replicas":[2,0,1],"topic":"t0"},{"load":{"follower":{"CPU":1,"DISK":86,"NW_IN":10},"leader":{"CPU":2,"DISK":86,"NW_IN":10,"NW_OUT":19}},"partition":0,"replicas":[2,0,1],"topic":"t1"}],"version":1}\n'
+
+ONE_BROKER = '{"brokerCapacities":[{"brokerId":"-1","capacity":{"CPU":"10000","DISK":"500000","NW_IN":"50000","NW_OUT":"50000"}}],"brokers":[{"id":0,"rack":"r0"}],"partitions":[{"load":{"follower":{"CPU":2,"DISK":531,"NW_IN":6},"leader":{"CPU":4,"DISK":531,"NW_IN":6,"NW_OUT":68}},"partition":0,"replicas":[0],"topic":"t0"}],"version":1}\n'
+
+# Goals that are named in another order, with those that each list has.
+THREE_GOALS = "planned\nproposals 0\nEvacuationGoal 0 0\nDiskCapacityGoal 0 0\nRackAwareGoal 0 0\nDemotionGoal 0 0\nReplicaDistributionGoal 0 0\n"
+
+# Clusters that are planned for, and some that are written.
 SUMMARIES = [
     ("gen 1 --brokers 3 --partitions 2", "", "", 0, ONE_LEAD, ""),
     ("gen 1 --partitions 0", "", "", 0, NO_PARTITION, ""),
@@ -23,6 +30,30 @@ SUMMARIES = [
         4,
         ONE_DISK_FAILS,
         "hard goal failed: DiskCapacityGoal\n",
+    ),
+    (
+        "gen 1 --brokers 3 --partitions 2 --skip-hard-goal-check --goals ReplicaDistributionGoal,DiskCapacityGoal,RackAwareGoal",
+        "",
+        "",
+        0,
+        THREE_GOALS,
+        "",
+    ),
+    (
+        "gen 1 --brokers 3 --partitions 2 --file",
+        "",
+        "",
+        0,
+        THREE_BROKERS,
+        "",
+    ),
+    (
+        "gen 7 --brokers 1 --partitions 1 --file",
+        "",
+        "",
+        0,
+        ONE_BROKER,
+        "",
     ),
     (
         "gen 5 --brokers 6 --partitions 0 --file",

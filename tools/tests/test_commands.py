@@ -11,7 +11,8 @@ from commands import COMMANDS, ENDS, EXAMPLES, NAMES, OPERANDS, OPTIONS
 
 PROGRAM = ROOT / "crates/sumpharu/out/sumpharu"
 WORDS = ROOT / "crates/command_words/src"
-SOURCES = ROOT / "crates/cc_program/src"
+QUIET = ROOT / "crates/quiet_commands/src"
+LIVE = ROOT / "crates/cc_program/src"
 
 
 def bodies(text, pattern):
@@ -44,7 +45,7 @@ def commands():
 
 class Commands(unittest.TestCase):
     def test_commands_are_those_that_the_program_runs(self):
-        text = "".join((SOURCES / name).read_text() for name in ("commands.rt", "lives.rt"))
+        text = (QUIET / "commands.rt").read_text() + (LIVE / "lives.rt").read_text()
         run = {name.lower() for name in re.findall(r"^ +Command::(\w+)\(", text, re.M)}
         self.assertEqual(set(NAMES), run, "tools/lib/commands.py needs a row for each command; then run tools/make-manual")
 
@@ -67,11 +68,11 @@ class Commands(unittest.TestCase):
         self.assertEqual({it.split()[0] for it in EXAMPLES}, set(NAMES))
 
     def test_statuses_and_lines_are_those_of_the_program(self):
-        text = (SOURCES / "ends.rt").read_text()
+        text = (QUIET / "ends.rt").read_text()
         statuses = {name: int(number) for name, number in re.findall(r"End::(\w+)(?:\(_\))? => (\d+),", text)}
         lines = dict(re.findall(r'End::(\w+) => b"([^"]*?)(?:\\n)?",', text))
         self.assertEqual({end.status for end in ENDS}, set(statuses.values()) | {1})
-        clause = re.search(r"ensures statuses \{(.*?)\}", (SOURCES / "quiet.rt").read_text(), re.S)[1]
+        clause = re.search(r"ensures statuses \{(.*?)\}", (QUIET / "quiet.rt").read_text(), re.S)[1]
         quiet = {int(number) for number in re.findall(r"result ≡ (\d+)", clause)}
         with_threads = {end.status for end in ENDS if set(end.commands) == {"serve"} or "--movers" in end.only}
         self.assertEqual({end.status for end in ENDS} - quiet, with_threads - quiet | {1})

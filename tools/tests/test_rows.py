@@ -11,7 +11,7 @@ import unittest
 
 ROOT = pathlib.Path(__file__).resolve().parents[2]
 sys.path.insert(0, str(ROOT / "tools"))
-from rows import goals, plans, sessions, summaries
+from rows import files, goals, plans, sessions, summaries, words as refused
 
 PROGRAM = ROOT / "crates/sumpharu/out/sumpharu"
 
@@ -40,7 +40,8 @@ class Rows(unittest.TestCase):
 
     def run_program(self, words, requests="", **more):
         given = {"stdout": subprocess.PIPE, "input": requests.encode(), **more}
-        return subprocess.run([PROGRAM, *words.split()], cwd=self.room, stderr=subprocess.PIPE, timeout=60, **given)
+        words = words.split(" ") if isinstance(words, str) else words
+        return subprocess.run([PROGRAM, *words], cwd=self.room, stderr=subprocess.PIPE, timeout=60, **given)
 
     def write(self, cluster, trace=""):
         (self.room / "cluster").write_text(cluster)
@@ -60,6 +61,28 @@ class Rows(unittest.TestCase):
         for row in (row for table in tables for row in table):
             with self.subTest(row=row):
                 self.expect(row)
+
+    def test_files(self):
+        for before, behind, rows in files.FILES:
+            for middle, fault in rows:
+                cluster = before + middle + behind
+                ended = (3, "", f"cluster refused: {fault}\n") if fault else (0, plans.NOTHING, "")
+                with self.subTest(cluster=cluster):
+                    self.expect((plans.PLAN, cluster, "", *ended))
+
+    def test_words_that_no_command_has(self):
+        for words in [[], *refused.REFUSED]:
+            with self.subTest(words=words):
+                ran = self.run_program(words)
+                self.assertEqual((ran.returncode, ran.stdout, ran.stderr), (2, b"", b"usage error\n"))
+
+    def test_bytes_that_are_no_trace(self):
+        self.write(plans.THREE_BROKERS)
+        for trace in plans.NO_TRACES:
+            with self.subTest(trace=trace):
+                (self.room / "trace").write_bytes(trace)
+                ran = self.run_program(plans.CHECK)
+                self.assertEqual((ran.returncode, ran.stdout, ran.stderr), (11, b"fault 0 0 NOT_A_TRACE\n", plans.REFUSED.encode()))
 
     def test_a_cluster_that_is_made_is_planned_for(self):
         words = "gen 7 --brokers 6 --partitions 30 --file"

@@ -13,8 +13,9 @@ import time
 import unittest
 
 ROOT = pathlib.Path(__file__).resolve().parents[2]
-sys.path.insert(0, str(ROOT / "tools/lib"))
+sys.path[:0] = [str(ROOT / "tools/lib"), str(ROOT / "tools")]
 from commands import NAMES
+from rows.words import REFUSED
 
 # A shell that starts the tests in the background has them ignore signals, which what they start would inherit.
 for number in (signal.SIGINT, signal.SIGHUP, signal.SIGTERM):
@@ -450,10 +451,10 @@ class Script(unittest.TestCase):
             self.assertEqual(err.count("isn't on the path"), 1)
 
     def test_words_are_refused_only_where_the_program_refuses_them(self):
-        """Each command line that the crate of the words has in its tests: one that means a command goes to the program."""
-        text = (ROOT / "crates/words_tests/src/commands.rt").read_text()
+        """Each command line of the tests and of the rows: one that means a command goes to the program."""
+        text = (ROOT / "crates/core_tests/src/commands.rt").read_text()
         text = text[text.index("const LINES") : text.index("];", text.index("const LINES"))]
-        lines = re.findall(r'\(\s*"((?:[^"])*)",\s*"([^"]*)",?\s*\)', text)
+        lines = re.findall(r'\(\s*"((?:[^"])*)",\s*"([^"]*)",?\s*\)', text) + [(line, "Usage") for line in REFUSED]
         self.assertGreater(len(lines), 80)
         self.plan()
         passed = []

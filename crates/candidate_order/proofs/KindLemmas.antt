@@ -18,7 +18,7 @@ use Rattle.goal_terms.specs.declared.heat.Heat.{Heat}
 use Rattle.goal_terms.specs.declared.heat.Heat.TheVariants.{Cold}
 use Rattle.candidate_order.specs.CandidateList.{replicas_of, candidates_in, move_list, lead_list, swap_list, candidate_list}
 use Rattle.candidate_order.specs.Laws.{MovesComeFirst}
-use Rattle.candidate_order.specs.declared.plain.Kind.TheVariants.{Leads}
+use Rattle.candidate_order.specs.declared.kinds.Kind.TheVariants.{Leads}
 use Rattle.candidate_order.proofs.Complete.{known-member}
 use Rattle.candidate_order.proofs.Firsts.{IsFirst-in_front, IsFirst-passed, first-kept}
 use Rattle.candidate_order.proofs.RowLemmas.{flat-filter, same-flat}

@@ -1,5 +1,4 @@
 pub mod BlockLemmas
-pub mod Candidates
 pub mod Complete
 pub mod Firsts
 pub mod KindLemmas

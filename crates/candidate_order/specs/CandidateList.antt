@@ -10,8 +10,8 @@ use Rattle.plan_terms.specs.declared.actions.Action.{Action}
 use Rattle.plan_terms.specs.declared.actions.Action.TheVariants.{Move, Lead, Swap}
 use Rattle.goal_terms.specs.Quantity.{part_weight, load_weights}
 use Rattle.candidate_order.specs.First.{IsFirst}
-use Rattle.candidate_order.specs.declared.plain.Kind.{Kind}
-use Rattle.candidate_order.specs.declared.plain.Kind.TheVariants.{Moves, Leads, Swaps}
+use Rattle.candidate_order.specs.declared.kinds.Kind.{Kind}
+use Rattle.candidate_order.specs.declared.kinds.Kind.TheVariants.{Moves, Leads, Swaps}
 use Rattle.plan_terms.specs.Resources.{DISK}
 
 -- x goes before the first that weighs no more

@@ -1,6 +1,5 @@
 pub mod CandidateList
 pub mod First
-pub mod Kinds
 pub mod Known
 pub mod Laws
 pub mod Looks

@@ -20,7 +20,7 @@ use Rattle.candidate_order.specs.declared.kept.Choice.TheVariants as choice
 use Rattle.candidate_order.specs.declared.kept.PartWeights.{PartWeights}
 use Rattle.candidate_order.specs.declared.kept.Row.{Row}
 use Rattle.candidate_order.specs.declared.kept.Scan.{Scan}
-use Rattle.candidate_order.specs.declared.plain.Kind.{Kind}
+use Rattle.candidate_order.specs.declared.kinds.Kind.{Kind}
 
 -- of one broker: its room for each earlier goal, and where its quantity lies for the goal at hand
 pub record IsRow {X : Type 0} (weighs : X → Option Weights) (room : X → ℕ → Room) (heat : ℕ → Heat) (earlier : List X) (r : Row) : Type 0 where

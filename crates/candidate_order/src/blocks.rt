@@ -6,9 +6,9 @@ ghost use Rattle.candidate_order.specs.Known.{IsSearchOf, SearchFinds, searched}
 ghost use Rattle.plan_terms.specs.declared.actions.Action.{Action};
 
 use crate::kept::{Row, Scan};
+use crate::kinds::Kind;
 use crate::nexts::first_at;
 use crate::order::Order;
-use crate::plain::Kind;
 use load_model::{Case, LoadBook};
 use move_actions::Goal;
 use plan_terms::Action;

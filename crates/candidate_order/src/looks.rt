@@ -6,7 +6,7 @@ ghost use Rattle.candidate_order.specs.Looks.{look_weight, look_whole, look_room
 ghost use Rattle.goal_terms.specs.Rooms.{free};
 ghost use Rattle.plan_terms.specs.Belongs.{IsBookOf};
 ghost use Rattle.plan_terms.specs.Cluster.{leads, id_at};
-ghost use Rattle.plan_terms.specs.Fits.{fits};
+ghost use Rattle.plan_terms.specs.Fits.{fits, targets_known};
 ghost use Rattle.plan_terms.specs.Goal.{Accepts};
 ghost use Rattle.plan_terms.specs.Trace.{AllAccept};
 ghost use Rattle.plan_terms.specs.declared.actions.Action.{Action};
@@ -189,34 +189,19 @@ pub fn may_leave<G: Goal>(
     all_give(weights, givers)
 }
 
-/// Whether each earlier goal with a quantity accepts a move.
-pub fn weighed_accept<G: Goal>(
-    case: &Case,
-    book: &LoadBook,
-    earlier: &[G],
-    part: u32,
-    from: u32,
-    to: u32,
-    weights: &[u64],
-    givers: &[Room],
-    takers: &[Room],
-) -> bool
-    // The goals and the book are of the case, and the move fits.
+/// Whether each of the goals accepts the action.
+pub fn all_accept<G: Goal>(case: &Case, book: &LoadBook, earlier: &[G], action: Action) -> bool
     requires made { All (λ g. G.made_for g case.now) earlier.now }
     requires belongs { IsBookOf case.now book.now }
-    requires applies { IsTrue (fits book.now.lists (Action.Move part from to)) }
-    // What is weighed, and the rooms on both sides.
-    requires weights { weights.now
-        ≡ weights_for G.Goal case.now book.now.lists part from earlier.now }
-    requires givers { givers.now ≡ rooms_for G.Goal case.now book.now.lists from earlier.now }
-    requires takers { takers.now ≡ rooms_for G.Goal case.now book.now.lists to earlier.now }
-    // Whether all of the goals accept it.
+    requires applies { IsTrue (fits book.now.lists action) }
+    requires known { IsTrue (targets_known case.now action) }
     ensures { IsTrue result
-        ↔ All
-        (λ g. IfSome (G.weighs g)
-        (λ _. Accepts (G.meaning g case.now) book.now.lists (Action.Move part from to)))
-        earlier.now }
+        ↔ AllAccept (map (λ g. G.meaning g case.now) earlier.now) book.now.lists action }
 {
-    let _brokers = case.brokers();
-    all_pass(weights, givers, takers)
+    for goal in earlier {
+        if !goal.accepts(case, book, action) {
+            return false;
+        }
+    }
+    true
 }

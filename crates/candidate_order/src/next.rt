@@ -7,9 +7,9 @@ ghost use Rattle.candidate_order.specs.Scan.{AreStirring};
 ghost use Rattle.plan_terms.specs.Belongs.{IsBookOf};
 
 use crate::kept::{Choice, Scan, all_again, all_below, all_chosen, all_cold, all_stirring};
+use crate::kinds::Kind;
 use crate::nexts::next_in;
 use crate::order::Order;
-use crate::plain::Kind;
 use load_model::{Case, LoadBook};
 use move_actions::Goal;
 use plan_terms::{Action, Memory};

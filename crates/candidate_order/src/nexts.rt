@@ -5,14 +5,14 @@ ghost use Rattle.candidate_order.specs.CandidateList.{candidates_at, candidates_
 ghost use Rattle.candidate_order.specs.Known.{FindsFirst, IsRowFor, IsScanFor};
 ghost use Rattle.candidate_order.specs.Looks.{trades_nothing, weighs_nothing};
 ghost use Rattle.candidate_order.specs.Order.{IsOrderOf};
-ghost use Rattle.candidate_order.specs.declared.plain.Kind.TheVariants as kind;
+ghost use Rattle.candidate_order.specs.declared.kinds.Kind.TheVariants as kind;
 ghost use Rattle.plan_terms.specs.Belongs.{IsBookOf};
 
 use crate::blocks::{BLOCK, Search, first_by_blocks};
 use crate::kept::{Row, Scan, column};
+use crate::kinds::Kind;
 use crate::leads::first_lead;
 use crate::order::Order;
-use crate::plain::Kind;
 use crate::rows::{first_anywhere, gives_in_vain};
 use crate::swaps::{first_swap, may_trade};
 use load_model::{Case, LoadBook};

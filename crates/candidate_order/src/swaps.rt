@@ -6,7 +6,7 @@ ghost use Rattle.candidate_order.specs.Known.{FindsFirst, IsRowFor, IsScanFor, S
 ghost use Rattle.candidate_order.specs.Looks.{may_meet, may_swap};
 ghost use Rattle.candidate_order.specs.Order.{IsOrderOf};
 ghost use Rattle.candidate_order.specs.Scan.{AreWeights};
-ghost use Rattle.candidate_order.specs.declared.plain.Kind.TheVariants as kind;
+ghost use Rattle.candidate_order.specs.declared.kinds.Kind.TheVariants as kind;
 ghost use Rattle.plan_terms.specs.Belongs.{IsBookOf};
 ghost use Rattle.plan_terms.specs.Cluster.{Lists, list_of, leads};
 ghost use Rattle.plan_terms.specs.Legal.{is_legal};

@@ -6,4 +6,3 @@ mod counts;
 mod entry;
 
 pub use counts::Counts;
-pub use exec_terms::Caps;

@@ -1,3 +1,1 @@
-pub mod Failing
-pub mod Memory
 pub mod Outside

@@ -21,18 +21,13 @@ use Rattle.rest_stream.specs.Stream.{Requests, stopped}
 use Rattle.rest_stream.specs.declared.raw.RawRequest.{RawRequest}
 use Rattle.rest_stream.specs.declared.raw.Stop.{Stop}
 use Rattle.cc_program.specs.Complete.{HasLiveFailed, IsCutSession, IsLiveCause, IsLiveGiven, IsServed}
-use Rattle.cc_program.specs.Input.{IsRefused, Means}
-use Rattle.cc_program.specs.Ends.{status_of}
+use Rattle.quiet_commands.specs.Input.{IsRefused, Means}
+use Rattle.quiet_commands.specs.Ends.{status_of}
 use Rattle.cc_program.specs.Lives.{Gate, IsLeft, IsLiveOf, IsNotBegun, IsUnasked, IsUnread, Leaves, LiveAsked, Outside, ServingAsked, Shelf, copiers_before, ended_live, is_want, live_command, with_copier}
-use Rattle.cc_program.specs.Sessions.{drained_end}
-use Rattle.cc_program.specs.declared.ends.End.{End}
-use Rattle.cc_program.specs.declared.ends.End.TheVariants as end
-use Rattle.cc_program.proofs.Streams.{never_cut}
-
--- what is told of a stream is told of what is left
-pub if_told : {X : Type 0} (o : Option X) (P : X → Type 0) (x : X) → o ≡ Some x → IfSome o P → P x
-if_told None P x e h = absurd cc
-if_told (Some y) P x e h = let same : y ≡ x = (let i : Some y ≡ Some x = e in cc) in subst P same h
+use Rattle.quiet_commands.specs.Sessions.{drained_end}
+use Rattle.quiet_commands.specs.declared.ends.End.{End}
+use Rattle.quiet_commands.specs.declared.ends.End.TheVariants as end
+use Rattle.quiet_commands.proofs.Streams.{if_told, never_cut}
 
 module _ {A : Type 0} (gate : Gate A) (words : List (List ℕ)) (files : Shelf) (old new : Outside) (links : List ServedView) (admin : A) (back : Option A) where
   abbrev Cause : Option (BookView A) → End → Type 0

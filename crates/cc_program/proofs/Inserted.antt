@@ -8,7 +8,7 @@ use Rattle.live_service.specs.Asked as asked
 use Rattle.live_service.specs.Views.{ServedView}
 use Rattle.live_service.specs.declared.links.Serving.{Serving}
 use Rattle.cc_program.specs.Lives.{CrewAsked, Gate, IsLeft, IsOver, Outside, links_in, serving_told}
-use Rattle.cc_program.specs.declared.ends.End.{End}
+use Rattle.quiet_commands.specs.declared.ends.End.{End}
 
 pub put_back : {X : Type 0} (xs : List X) (n : ℕ) (x : X) → n < length xs → x ≡ slice_index_or xs n x → xs ≡ insert (remove xs n) n x
 put_back [] n x p v = absurd (omega (arith, p))

@@ -1,11 +1,3 @@
-pub mod Ending
-pub mod Applied
-pub mod Made
-pub mod Ranges
-pub mod Traces
 pub mod Inserted
 pub mod Crowds
-pub mod Streams
 pub mod Causes
-pub mod Complete
-pub mod Blameless

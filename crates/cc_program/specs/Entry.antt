@@ -10,11 +10,11 @@ use Rattle.live_service.specs.Views.{served_told}
 use Rattle.net_links.specs.declared.listener.Listener as listener_trait
 use Rattle.std.specs.declared.io.ErrorKind.{ErrorKind}
 use Rattle.std.specs.declared.io.ErrorKind.TheVariants.{OutOfMemory}
-use Rattle.cc_program.specs.Edges.{edge_told}
+use Rattle.quiet_commands.specs.Edges.{edge_told}
 use Rattle.cc_program.specs.Lives.{Leaves, Shelf, gate, outside_told, shelf}
-use Rattle.cc_program.specs.Runs.{Runs}
-use Rattle.cc_program.specs.declared.ends.End.{End}
-use Rattle.cc_program.specs.declared.ends.End.TheVariants.{Memory, Usage}
+use Rattle.quiet_commands.specs.Runs.{Runs}
+use Rattle.quiet_commands.specs.declared.ends.End.{End}
+use Rattle.quiet_commands.specs.declared.ends.End.TheVariants.{Memory, Usage}
 use Rattle.cc_program.specs.declared.lives.Left.{Left}
 use Rattle.cc_program.specs.declared.lives.Outside.{Outside}
 

@@ -25,14 +25,14 @@ use Rattle.net_links.specs.declared.listener.Listener as listener_trait
 use Rattle.plan_terms.specs.Cluster.{Lists}
 use Rattle.rest_session.specs.declared.session.LinkEnd.{LinkEnd}
 use Rattle.rest_session.specs.declared.session.LinkEnd.TheVariants as link
-use Rattle.cc_program.specs.Ends.{refusal_line}
-use Rattle.cc_program.specs.Input.{IsRefused, Means}
-use Rattle.cc_program.specs.Sessions.{drained_end, ended_by}
-use Rattle.cc_program.specs.declared.ends.End.{End}
+use Rattle.quiet_commands.specs.Ends.{refusal_line}
+use Rattle.quiet_commands.specs.Input.{IsRefused, Means}
+use Rattle.quiet_commands.specs.Sessions.{drained_end, ended_by}
+use Rattle.quiet_commands.specs.declared.ends.End.{End}
 use Rattle.cc_program.specs.declared.lives.Crew.{Crew}
 use Rattle.cc_program.specs.declared.lives.Outside as lives
 use Rattle.cc_program.specs.declared.lives.LiveRequest.{LiveRequest}
-use Rattle.cc_program.specs.declared.ends.End.TheVariants.{FileFault, ListenerFault, Memory, NotDrained, Refused, Usage}
+use Rattle.quiet_commands.specs.declared.ends.End.TheVariants.{FileFault, ListenerFault, Memory, NotDrained, Refused, Usage}
 
 -- so many links, accepted at this address
 pub record ServingAsked : Type 0 where

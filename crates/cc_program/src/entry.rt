@@ -2,18 +2,17 @@
 ghost use Rattle.std.specs.Prelude.{◌≡◌, IfErr, IfOk, map, string_bytes, vec_len};
 ghost use Rattle.std.specs.Process.{exit_status};
 ghost use Rattle.std.specs.IoError.{error_kind};
-ghost use Rattle.cc_program.specs.Ends.{IsTold, line_of, status_of};
+ghost use Rattle.quiet_commands.specs.Ends.{IsTold, line_of, status_of};
 ghost use Rattle.cc_program.specs.Entry.{AsWanted, IsWordless, RunsAlone, RunsLive};
-ghost use Rattle.cc_program.specs.declared.ends.End.{End};
+ghost use Rattle.quiet_commands.specs.declared.ends.End.{End};
 
-use crate::ends::{End, conclude};
 use crate::lives::{Outside, run_live};
-use crate::quiet::run_quiet;
 use cc_base::{Files, Link, Sink};
 use cluster_gate::{Admin, Copier, MemoryCluster, MemoryCopier};
 use command_words::wants_live;
 use net_links::Listener;
 use plan_terms::Memory;
+use quiet_commands::{End, conclude, run_quiet};
 use std::alloc::Global;
 use std::io;
 use std::io::ErrorKind;

@@ -2,21 +2,9 @@
 //! cluster that the caller gives.
 #![tactic(auto)]
 
-mod answers;
-mod applies;
-mod checks;
-mod commands;
-mod ends;
 mod entry;
-mod gens;
-mod input;
 mod lives;
-mod planning;
-mod plans;
-mod quiet;
-mod sessions;
 
-pub use ends::End;
 pub use entry::run_words;
 pub use lives::{Ended, Left, Outside, run_live};
-pub use quiet::run_quiet;
+pub use quiet_commands::{End, run_quiet};

@@ -1,4 +1,5 @@
 pub mod Copies
+pub mod Failing
 pub mod Held
 pub mod Lists
 pub mod Receipts

@@ -1,13 +1,14 @@
 // An admin and a copier that fail at chosen calls.
 ghost use Rattle.std.specs.Prelude.{◌≡◌, ◌≤◌, ◌<◌, ◌+◌, length, IsErr, IsErrOf, OnOk, OnErr};
-ghost use Rattle.cc_base.specs.Failing.{CountsCall, IsListed};
 ghost use Rattle.cc_base.specs.Outside.{HasCause, HasRisen};
 ghost use Rattle.cluster_gate.specs.Copies.{with_copy};
+ghost use Rattle.cluster_gate.specs.Failing.{CountsCall, IsListed};
 ghost use Rattle.cluster_gate.specs.Lists.{installed, with_list};
 
 use crate::admin::{Admin, InstallFault};
+use crate::calls::FailingCalls;
 use crate::copier::{Copier, CopyFault};
-use cc_base::{Failed, FailingCalls};
+use cc_base::Failed;
 use load_model::Assign;
 use std::alloc::Global;
 

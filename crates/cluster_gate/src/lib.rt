@@ -3,14 +3,14 @@
 #![tactic(auto)]
 
 mod admin;
+mod calls;
 mod copier;
 mod failing;
 mod held;
 mod memory;
-#[cfg(test)]
-mod tests;
 
 pub use admin::{Admin, InstallFault};
+pub use calls::FailingCalls;
 pub use copier::{ChunkCopy, Copier, CopyFault, Receipt, copy_chunk};
 pub use failing::{FailingAdmin, FailingCopier};
 pub use memory::{MemoryCluster, MemoryCopier};

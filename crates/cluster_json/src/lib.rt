@@ -17,5 +17,4 @@ mod shape;
 
 pub use file::{ClusterFile, read_cluster};
 pub use named::{NamedSample, read_named_sample};
-pub use plan_terms::{Caps, Sample, WindowRules};
 pub use refusal::FileRefusal;

@@ -18,4 +18,3 @@ mod submits;
 mod writes;
 
 pub use book::Book;
-pub use core_terms::StepFault;

@@ -4,11 +4,12 @@ ghost use Rattle.std.specs.List.{All};
 ghost use Rattle.user_tasks.specs.Tasks.{open_count};
 ghost use Rattle.core_terms.specs.Asked.{goals_of};
 ghost use Rattle.core_terms.specs.Jobs.{admitted, executing, id_at};
+ghost use Rattle.core_terms.specs.Same.{same_ask};
 ghost use Rattle.core_terms.specs.Submits.{ended, first_executing, found_at, named, outcome_of, place_of};
 
 use crate::desk::Desk;
 use crate::places::{first_in_execution, first_planning};
-use core_cases::{is_dry, same_ask};
+use core_cases::is_dry;
 use core_terms::{Job, Named, Outcome, Reply};
 use goal_set::GoalList;
 use plan_terms::{ListOf, Memory, Part, Proposal};
@@ -85,6 +86,13 @@ fn place_of(tasks: &[UserTask], id: Uuid) -> Option<usize>
         return None;
     }
     Some(number as usize - 1)
+}
+
+// Whether two requests ask the same.
+fn same_ask(one: &Ask, other: &Ask) -> bool
+    ensures { result ≡ same_ask one.now other.now }
+{
+    one.is_same(other)
 }
 
 // A job that waits for a planner.

@@ -16,6 +16,6 @@ pub use asked::{case_of, first_unknown, goals_of, is_dry};
 pub use file::OpenFile;
 pub use loads::{loaded, loaded_case, valid_parts, windows_of};
 pub use moments::present;
-pub use same::{failure_is_for, plan_is_for, same_ask};
+pub use same::{failure_is_for, plan_is_for};
 pub use samples::sample;
 pub use shows::{cluster_shown, load_shown, state_shown, tasks_shown};

@@ -2,14 +2,13 @@
 ghost use Rattle.std.specs.Prelude.{◌≡◌, Bool, List};
 ghost use Rattle.std.specs.Cmp.Lexicographic.{pointwise};
 ghost use Rattle.core_terms.specs.Plans.{problem_of_plan, problem_of_failure};
-ghost use Rattle.core_terms.specs.Same.{same_ask, same_broker, same_cluster, same_goals, same_lists, same_name, same_options, same_part, same_problem, state_number};
+ghost use Rattle.core_terms.specs.Same.{same_broker, same_cluster, same_goals, same_lists, same_name, same_options, same_part, same_problem, state_number};
 
 use goal_set::{Failure, GoalKind, GoalList, Plan};
 use load_model::{Assign, Case};
 use plan_terms::{
     Broker, BrokerState, Loads, MinLeaders, Options, Part, RackName, Ratio, Replicas,
 };
-use user_tasks::Ask;
 
 // What is compared member by member.
 trait Same {
@@ -193,11 +192,4 @@ pub fn failure_is_for(failure: &Failure, case: &Case, start: &[Replicas], goals:
     same_cluster(failure.case(), case)
         && same_lists(failure.start(), start)
         && same_goals(failure.goals(), goals)
-}
-
-/// Whether two requests ask the same.
-pub fn same_ask(one: &Ask, other: &Ask) -> bool
-    ensures { result ≡ same_ask one.now other.now }
-{
-    one.is_same(other)
 }

@@ -9,10 +9,11 @@ use plan_terms::ListOf;
 use std::alloc::{AllocError, Global};
 use std::process::Abort;
 use std::thread::Threads;
-use test_clusters::cluster;
+use test_fakes::cluster;
 use user_tasks::{Ask, Op};
 
-const TWO: &str =
+/// Two brokers, and a partition on the first.
+pub const TWO: &str =
     r#"{"version":1,"brokers":[{"id":0},{"id":1}],"partitions":[{"topic":"t","partition":0,"replicas":[0]}],"config":{"min.valid.partition.ratio":"0"}}"#;
 
 const THREE: &str =
@@ -38,32 +39,40 @@ enum Step {
     Close,
 }
 
+/// A book of a cluster in memory, of whose calls some fail.
+pub type TestBook = Book<FailingAdmin<MemoryCluster>>;
+
 // A book, and what its last planner and its last mover hold.
 #[derive(Drop)]
 struct Run {
-    book: Book<FailingAdmin<MemoryCluster>>,
+    book: TestBook,
     copier: MemoryCopier,
     job: Option<(u64, Problem)>,
     work: Option<Given>,
 }
 
-// A book whose admin fails at the calls with these numbers, the first being 1.
-fn run_of(rt: &impl Abort, alloc: Global, text: &str, failing: &[u64]) -> Run {
+/// The book of a cluster file, whose admin fails at the calls with these numbers. The first is 1.
+pub fn book_of(rt: &impl Abort, alloc: Global, text: &str, failing: &[u64]) -> TestBook {
     let file = cluster(alloc, text).expect(rt, "cluster");
     let failing = failing.to_vec(alloc).expect(rt, "memory");
     let admin = FailingAdmin::new(MemoryCluster::new(alloc), failing);
     let Ok(book) = Book::begin(alloc, file, admin) else {
         panic!(rt; "no book");
     };
+    book
+}
+
+fn run_of(rt: &impl Abort, alloc: Global, text: &str, failing: &[u64]) -> Run {
     Run {
-        book,
+        book: book_of(rt, alloc, text, failing),
         copier: MemoryCopier::new(alloc),
         job: None,
         work: None,
     }
 }
 
-fn ask(rt: &impl Abort, alloc: Global, op: Op, brokers: &[u32], dryrun: bool) -> Event {
+/// A request for a plan.
+pub fn ask(rt: &impl Abort, alloc: Global, op: Op, brokers: &[u32], dryrun: bool) -> Event {
     let ask = Ask {
         op,
         brokers: ListOf::new(brokers.to_vec(alloc).expect(rt, "memory")),

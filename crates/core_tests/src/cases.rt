@@ -11,7 +11,7 @@ use load_model::Case;
 use plan_terms::{BrokerState, ListOf, Topic};
 use std::alloc::Global;
 use std::process::Abort;
-use test_clusters::cluster;
+use test_fakes::cluster;
 use user_tasks::{Ask, Op, Status, UserTask};
 
 // The file's own load of the first partition, a sample of the second, and none of the third.

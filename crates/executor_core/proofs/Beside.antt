@@ -19,7 +19,7 @@ use Rattle.cap_ledger.specs.Ledger.{Ledger, knows, HasRoom, IsCounted, IsKnownLi
 use Rattle.task_planner.specs.declared.slot.Slot.{Slot}
 use Rattle.task_index.specs.Index.{Marks}
 use Rattle.task_planner.specs.Queue.{IsListOf, AreListsOf}
-use Rattle.executor_core.specs.Alone.{proposal_of}
+use Rattle.executor_core.specs.Kept.{proposal_of}
 use Rattle.executor_core.specs.Kept.{AreCounts, slot_of, IsFixed, IsKept}
 use Rattle.executor_core.proofs.Flying.{flying-same, flying-enter, flying-leave, flying-map, flying-some, flying-few}
 

@@ -1,17 +1,20 @@
--- The brokers of a case, and those of them that are lost.
-use Rattle.std.proofs.Common.{◌≡◌, ℕ, Bool, true, false, not, ◌||◌, cond, List, [], ◌∷◌, ◌++◌, map, get_or, refl, sym, ap, ◌∙◌, suc, inl, inr}
-use Rattle.std.specs.Prelude.{◌==◌, is_some, Option, Some, None}
+-- The brokers of a case, those of them that are lost, and how many chunks its partitions have.
+use Rattle.std.proofs.Common.{◌≡◌, ℕ, ◌≤◌, Bool, true, false, not, ◌||◌, cond, List, [], ◌∷◌, ◌++◌, map, get_or, refl, sym, ap, ◌∙◌, suc, inl, inr}
+use Rattle.std.specs.Prelude.{◌==◌, nat_lt, is_some, Option, Some, None}
 use Rattle.std.specs.List.{All, list_any, list_all, filter}
 use Rattle.std.specs.Option.{option_map, option_map_or}
-use Rattle.std.proofs.lemmas.Bool.{and_from, and_parts, not_from_false, not-true, or_cases, or_left, or_right, or_parts, or_from, eq-eqb, ne_eqb, eqb-true, true≢false, false≢true, false_from_ne_true}
+use Rattle.std.proofs.lemmas.Bool.{ltb-false, and_from, and_parts, not_from_false, not-true, or_cases, or_left, or_right, or_parts, or_from, eq-eqb, ne_eqb, eqb-true, true≢false, false≢true, false_from_ne_true}
 use Rattle.std.proofs.Math.Path.{fun_ext}
 use Rattle.plan_terms.specs.Belongs.{distinct}
 use Rattle.plan_terms.specs.Cluster.{Cluster, Lists, has, leads, is_known, broker_of}
-use Rattle.plan_terms.specs.Faults.{IsCase, case_fault, broker_repeat, first_repeat, repeat_from, same_id}
+use Rattle.plan_terms.specs.Faults.{IsCase, has_bad_chunks, case_fault, broker_repeat, first_repeat, repeat_from, same_id}
 use Rattle.plan_terms.specs.Legal.{is_lost}
 use Rattle.plan_terms.specs.States.{is_dead}
 use Rattle.plan_terms.specs.declared.cluster.Broker.{Broker}
-use Rattle.plan_terms.proofs.FaultLemmas.{option_or-None}
+use Rattle.plan_terms.proofs.FaultLemmas.{WithinLimits-faultless, option_or-None}
+use Rattle.plan_terms.specs.declared.cluster.Part.{Part}
+use Rattle.std.proofs.lemmas.List.Elements.{All-map}
+use Rattle.exec_terms.proofs.Gives.{none_any}
 
 -- the ids of brokers, and of those that are lost
 abbrev pub ids : List Broker → List ℕ
@@ -133,3 +136,11 @@ leads-has (x ∷ xs) b h = (or_parts (x == b) (has xs b) h).0
 -- the members of the lists that belong to a case are among the ids
 pub members_known : (c : Cluster) (lists : Lists) → All (λ list. list_all (is_known c) list ≡ true) lists → All (λ list. list_all (has (ids c.brokers)) list ≡ true) lists
 members_known c lists known = λ k d m. ap (λ (p : ℕ → Bool). list_all p (get_or lists k d)) (sym (fun_ext (is_known-has c.brokers))) ∙ known k d m
+
+-- the chunk counts of a case are within the limit
+pub few_chunks : (c : Cluster) → IsCase c → All (λ n. n ≤ 1000) (map (λ p. p.chunks) c.parts)
+few_chunks c h =
+    let good = none_any has_bad_chunks c.parts (WithinLimits-faultless c.brokers c.parts h.faultless).chunked in
+    All-map (λ n. n ≤ 1000) (λ (p : Part). p.chunks) c.parts (λ k d l.
+    let p : Part = get_or c.parts k d in
+    ltb-false 1000 p.chunks (or_parts (p.chunks == 0) (nat_lt 1000 p.chunks) (good k d l)).1)

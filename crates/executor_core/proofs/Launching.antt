@@ -26,7 +26,7 @@ use Rattle.cap_ledger.specs.Ledger.{Ledger, IsEmpty}
 use Rattle.task_planner.specs.declared.slot.Slot.{Slot}
 use Rattle.task_index.specs.Index.{Marks, marks_of, no_marks}
 use Rattle.task_planner.specs.Queue.{IsListOf, AreListsOf, waiting}
-use Rattle.executor_core.specs.Alone.{proposal_of}
+use Rattle.executor_core.specs.Kept.{proposal_of}
 use Rattle.executor_core.specs.Kept.{AreCounts, slot_of, IsFixed, unfinished_tasks, IsKept}
 use Rattle.executor_core.proofs.Unfinished.{unfinished-new}
 use Rattle.executor_core.proofs.Beside.{is_host-has}

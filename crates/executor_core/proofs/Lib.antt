@@ -1,15 +1,11 @@
-pub mod Admitted
 pub mod Beside
 pub mod Brokers
 pub mod Calls
-pub mod Drained
 pub mod Fitting
 pub mod Flying
-pub mod Begun
 pub mod Launching
 pub mod Marked
 pub mod Places
-pub mod Rounds
 pub mod Shown
 pub mod Starts
 pub mod Turned

@@ -14,7 +14,10 @@ use Rattle.cap_ledger.specs.Ledger.{Ledger, knows, adding_of, removing_of}
 use Rattle.task_planner.specs.declared.slot.Slot.{Slot}
 use Rattle.task_planner.specs.Queue.{IsListOf, AreListsOf}
 use Rattle.task_index.specs.Index.{Marks, marks_of}
-use Rattle.executor_core.specs.Alone.{proposal_of}
+
+-- the proposal of which the task was made
+abbrev pub proposal_of : Task → Proposal
+proposal_of t = record { part = t.part; before = t.before; after = t.after }
 
 -- the counts are those of the list of tasks, by filtering it, and they are of the hosts
 pub record AreCounts (hosts : List Host) (tasks : List Task) (l : Ledger) : Type 0 where

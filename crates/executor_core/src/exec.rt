@@ -11,11 +11,10 @@ ghost use Rattle.exec_terms.specs.Runs.{new_state, hosts_of, CanLaunch, IsExecut
 ghost use Rattle.exec_terms.specs.Settled.{settled, settled_in, settled_lists};
 ghost use Rattle.exec_terms.specs.Tally.{leases_out, phase_counts};
 ghost use Rattle.exec_terms.specs.Valid.{IsValid};
-ghost use Rattle.executor_core.specs.Alone.{proposal_of};
+ghost use Rattle.executor_core.specs.Kept.{proposal_of};
 ghost use Rattle.executor_core.specs.Kept.{AreCounts};
-ghost use Rattle.executor_core.specs.Launch.{fits_launch, may_launch};
 
-use crate::{admit, change, scan};
+use crate::{change, scan};
 use cap_ledger::Counts;
 use exec_terms::{
     Faults, Given, Host, Idle, KillFault, Killed, LaunchFault, LeaseFault, Left, NothingToStop,
@@ -130,54 +129,9 @@ impl Exec {
         })
     }
 
-    /// Whether the proposals can be launched: at most 10,000, of partitions that differ, each from
-    /// the list that its partition has now to 1 to 8 distinct known brokers, and no dead broker is
-    /// added or would lead where the leader alone changes.
-    pub fn can_launch(&self, proposals: &[Proposal]) -> bool
-        ensures { IsTrue result ↔ CanLaunch self.now proposals.now }
-    {
-        self.may_launch(proposals)
-    }
-
-    // The same, as a test.
-    #[tactic(auto, unfolding(crate::specs::Launch::may_launch))]
-    fn may_launch(&self, proposals: &[Proposal]) -> bool
-        ensures { result ≡ may_launch self.now proposals.now }
-    {
-        proposals.len() <= 10000
-            && admit::have_distinct_parts(proposals)
-            && self.fits_all(proposals)
-    }
-
-    // Whether each proposal can be launched.
-    fn fits_all(&self, proposals: &[Proposal]) -> bool
-        ensures { result ≡ list_all (fits_launch self.now) proposals.now }
-    {
-        proposals.iter().all(|p| self.fits_launch(p))
-    }
-
-    // Whether the proposal can be launched.
-    #[tactic(auto, unfolding(crate::specs::Launch::fits_launch))]
-    fn fits_launch(&self, proposal: &Proposal) -> bool
-        ensures { result ≡ fits_launch self.now proposal.now }
-    {
-        let before = proposal.before.as_slice();
-        let after = proposal.after.as_slice();
-        self.has_list(proposal.part as usize, before)
-            && admit::is_replica_list(after)
-            && admit::are_hosts(self.hosts.as_slice(), after)
-            && admit::needs_no_dead(self.hosts.as_slice(), before, after)
-    }
-
-    // Whether there is such a partition, and the list is the one that it has now.
-    fn has_list(&self, part: usize, list: &[u32]) -> bool
-        ensures { result
-            ≡ (nat_lt part (length self.now.base) && bytes_eq list.now (list_now self.now part)) }
-    {
-        part < self.base.len() && list == self.list_at(part)
-    }
-
-    /// Starts an execution: each proposal is a task that waits.
+    /// Starts an execution: each proposal is a task that waits. They are at most 10,000, of partitions
+    /// that differ, each from the list that its partition has now to 1 to 8 distinct known brokers, and
+    /// no dead broker is added or would lead where the leader alone changes.
     pub fn launch(&mut self, alloc: Global, proposals: &[Proposal]) -> Result<(), LaunchFault>
         requires { CanLaunch self.old proposals.now }
         ensures ok { OnOk result (self.new ≡ after_launch self.old proposals.now) }

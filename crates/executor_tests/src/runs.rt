@@ -1,7 +1,7 @@
 // Executions of four partitions on the brokers 0 to 5: call by call, disturbed before each event,
 // and whole.
-ghost use Rattle.std.specs.Prelude.{◌≡◌, ◌≤◌, false};
-ghost use Rattle.std.specs.List.{All, list_any};
+ghost use Rattle.std.specs.Prelude.{◌≡◌, ◌≤◌, IsTrue, false, not};
+ghost use Rattle.std.specs.List.{All, list_all, list_any};
 ghost use Rattle.cluster_json.specs.Ranges.{IsFile};
 ghost use Rattle.plan_terms.specs.Belongs.{Belongs};
 ghost use Rattle.plan_terms.specs.Legal.{is_lost};
@@ -9,14 +9,15 @@ ghost use Rattle.plan_terms.specs.Legal.{is_lost};
 use crate::plain;
 use crate::random::RANDOM;
 use cluster_json::ClusterFile;
-use exec_terms::{Given, Work, WorkKind};
-use executor_core::{Exec, avoids_lost, carry_out, launched};
+use exec_terms::{Given, LaunchFault, Work, WorkKind};
+use executor_core::{Exec, opened};
 use load_model::{Assign, Case};
-use plan_terms::{Caps, Memory, Replicas};
+use plan_terms::{Caps, Replicas};
+use proposal_set::proposals;
 use std::alloc::Global;
 use std::fmt::Debug;
 use std::process::Abort;
-use test_clusters::{assignment, cluster};
+use test_fakes::{assignment, cluster};
 
 // Six brokers, and four partitions of so many chunks, each on one of them.
 fn six_brokers(rt: &impl Abort, alloc: Global, on: [u32; 4], chunks: u32) -> ClusterFile
@@ -30,13 +31,12 @@ fn six_brokers(rt: &impl Abort, alloc: Global, on: [u32; 4], chunks: u32) -> Clu
     cluster(alloc, text.as_str()).expect(rt, "cluster")
 }
 
-// An executor that has launched what moves the partitions, or has carried it out.
+// An executor that has launched what moves the partitions.
 fn moving(
     rt: &impl Abort,
     alloc: Global,
     broker: u32,
     chunks: u32,
-    whole: bool,
     from: [u32; 4],
     to: [u32; 4],
 ) -> Exec {
@@ -44,20 +44,19 @@ fn moving(
     let [a, b, c, d] = to;
     let after = assignment(alloc, &file.case, &[&[a], &[b], &[c], &[d]]).expect(rt, "lists");
     assert!(rt; broker >= 1);
-    avoid_lost(rt, &file.case, &after);
-    let exec = begin(alloc, &file.case, caps(broker), whole, &file.lists, &after);
-    exec.expect(rt, "memory")
+    assert!(rt; avoids_lost(&file.case, &after));
+    let exec = launched(alloc, &file.case, caps(broker), &file.lists, &after);
+    exec.expect(rt, "launched")
 }
 
-// Launches what moves the partitions, or carries it out.
-fn begin(
+// An executor of the one assignment that has launched what leads to the other.
+fn launched(
     alloc: Global,
     case: &Case,
     caps: Caps,
-    whole: bool,
     before: &Assign,
     after: &Assign,
-) -> Result<Exec, Memory>
+) -> Result<Exec, LaunchFault>
     requires broker_cap { 1 ≤ caps.broker }
     requires cluster_cap { 1 ≤ caps.cluster }
     requires leader_cap { 1 ≤ caps.leader }
@@ -65,18 +64,31 @@ fn begin(
     requires after { Belongs case.now after.now }
     requires no_lost { All (λ list. list_any (is_lost case.now) list ≡ false) after.now }
 {
-    if whole {
-        carry_out(alloc, case, caps, before, after)
-    } else {
-        launched(alloc, case, caps, before, after)
-    }
+    let mut exec = opened(alloc, case, caps, before)?;
+    let changes = proposals(alloc, before, after)?;
+    exec.launch(alloc, &changes)?;
+    Ok(exec)
 }
 
-// The lists have no lost broker.
-fn avoid_lost(rt: &impl Abort, case: &Case, lists: &Assign)
-    ensures { All (λ list. list_any (is_lost case.now) list ≡ false) lists.now }
+// Whether a member of the list is lost.
+fn any_lost(case: &Case, list: &[u32]) -> bool
+    ensures { result ≡ list_any (is_lost case.now) list.now }
 {
-    assert!(rt; avoids_lost(case, lists));
+    list.iter().any(|b| case.is_lost(*b))
+}
+
+// Whether no member of any of the lists is lost.
+fn none_lost(case: &Case, lists: &[Replicas]) -> bool
+    ensures { result ≡ list_all (λ list. not (list_any (is_lost case.now) list)) lists.now }
+{
+    lists.iter().all(|list| !any_lost(case, list.as_slice()))
+}
+
+// Whether no list has a lost broker.
+fn avoids_lost(case: &Case, lists: &Assign) -> bool
+    ensures { IsTrue result → All (λ list. list_any (is_lost case.now) list ≡ false) lists.now }
+{
+    none_lost(case, lists.lists())
 }
 
 fn caps(broker: u32) -> Caps
@@ -145,9 +157,7 @@ fn set_caps(rt: &impl Abort, alloc: Global, exec: &mut Exec, broker: u32) -> Str
 }
 
 fn launch_none(rt: &impl Abort, alloc: Global, exec: &mut Exec) -> String {
-    let nothing = Vec::new(alloc);
-    assert!(rt; exec.can_launch(&nothing));
-    say(rt, alloc, &exec.launch(alloc, &nothing))
+    say(rt, alloc, &exec.launch(alloc, &[]))
 }
 
 // What the call answers, in words.
@@ -391,33 +401,22 @@ const PASSED_OVER: [Row; 6] = [
     ),
 ];
 
-// A change that was carried out.
-const WHOLE: [Row; 5] = [
-    (Call::Take, "Err(NoExecution)"),
-    (Call::List(0), "[1]"),
-    (Call::List(1), "[2]"),
-    (Call::List(2), "[1]"),
-    (Call::List(3), "[5]"),
-];
-
-// Executions, by the cap of a broker, whether they are carried out first, where the partitions are
-// and go to, and their calls.
-const EXECUTIONS: [(u32, bool, [u32; 4], [u32; 4], &[Row]); 8] = [
-    (1, false, [0, 0, 0, 4], [1, 2, 3, 5], &FULL),
-    (2, false, [0, 0, 0, 4], [1, 2, 3, 4], &LOWERED),
-    (1, false, [0, 0, 2, 2], [1, 1, 1, 3], &PASSED_OVER),
-    (5, false, [0, 0, 0, 0], [1, 0, 0, 0], &FORCED_STOP),
-    (5, false, [0, 0, 0, 0], [1, 0, 0, 0], &SOFT_STOP),
-    (5, false, [0, 0, 0, 0], [1, 0, 0, 0], &DEATH),
-    (5, false, [0, 0, 0, 0], [1, 0, 0, 0], &FAULTS),
-    (1, true, [0, 0, 1, 4], [1, 2, 1, 5], &WHOLE),
+// Executions, by the cap of a broker, where the partitions are and go to, and their calls.
+const EXECUTIONS: [(u32, [u32; 4], [u32; 4], &[Row]); 7] = [
+    (1, [0, 0, 0, 4], [1, 2, 3, 5], &FULL),
+    (2, [0, 0, 0, 4], [1, 2, 3, 4], &LOWERED),
+    (1, [0, 0, 2, 2], [1, 1, 1, 3], &PASSED_OVER),
+    (5, [0, 0, 0, 0], [1, 0, 0, 0], &FORCED_STOP),
+    (5, [0, 0, 0, 0], [1, 0, 0, 0], &SOFT_STOP),
+    (5, [0, 0, 0, 0], [1, 0, 0, 0], &DEATH),
+    (5, [0, 0, 0, 0], [1, 0, 0, 0], &FAULTS),
 ];
 
 #[test]
 fn answers_each_call(rt: HostRuntime) {
     let alloc = rt.alloc();
-    for (broker, whole, from, to, rows) in &EXECUTIONS {
-        let mut exec = moving(&rt, alloc, *broker, 1, *whole, *from, *to);
+    for (broker, from, to, rows) in &EXECUTIONS {
+        let mut exec = moving(&rt, alloc, *broker, 1, *from, *to);
         play(&rt, alloc, &mut exec, rows);
     }
 }
@@ -426,7 +425,7 @@ fn answers_each_call(rt: HostRuntime) {
 fn answers_random_executions_as_plain_scans_do(rt: HostRuntime) {
     let alloc = rt.alloc();
     for (broker, chunks, from, to, rows) in &RANDOM {
-        let mut exec = moving(&rt, alloc, *broker, *chunks, false, *from, *to);
+        let mut exec = moving(&rt, alloc, *broker, *chunks, *from, *to);
         for (call, want) in rows.iter() {
             answer_as_plain(&rt, alloc, &exec, call);
             let got = answer(&rt, alloc, &mut exec, call);
@@ -579,7 +578,7 @@ fn event(rt: &impl Abort, alloc: Global, exec: &mut Exec, held: Option<Given>) -
 // One worker takes work and reports it done, event by event; the call comes before the event of
 // this number.
 fn disturbed(rt: &impl Abort, alloc: Global, call: &Call, want: &str, before: u32) -> Exec {
-    let mut exec = moving(rt, alloc, 1, 2, false, [0, 0, 4, 4], [2, 3, 4, 4]);
+    let mut exec = moving(rt, alloc, 1, 2, [0, 0, 4, 4], [2, 3, 4, 4]);
     let mut held = None;
     for number in 1..40 {
         if number == before {
@@ -605,4 +604,24 @@ fn ends_well_with_a_stop_or_a_death_before_each_event(rt: HostRuntime) {
             play(&rt, alloc, &mut exec, &rows);
         }
     }
+}
+
+// What the lists are once a change was carried out.
+const WHOLE: [Row; 5] = [
+    (Call::Take, "Err(NoExecution)"),
+    (Call::List(0), "[1]"),
+    (Call::List(1), "[2]"),
+    (Call::List(2), "[1]"),
+    (Call::List(3), "[5]"),
+];
+
+#[test]
+fn one_worker_carries_out_a_whole_change(rt: HostRuntime) {
+    let alloc = rt.alloc();
+    let mut exec = moving(&rt, alloc, 1, 1, [0, 0, 1, 4], [1, 2, 1, 5]);
+    let mut held = None;
+    for _ in 0..18 {
+        held = event(&rt, alloc, &mut exec, held);
+    }
+    play(&rt, alloc, &mut exec, &WHOLE);
 }

@@ -2,11 +2,12 @@
 use Rattle.std.proofs.Common.{◌≡◌, List, [], ◌∷◌, ◌++◌, ℕ}
 use Rattle.std.specs.Prelude.{Option, Some}
 use Rattle.std.proofs.lemmas.List.Elements.{All-push}
-use Rattle.cc_base.specs.declared.failing.Failing.{Failing}
 use Rattle.cc_base.specs.declared.link.Joined.{Joined}
-use Rattle.cc_base.specs.declared.memory.MemorySink.{MemorySink}
-use Rattle.cc_base.specs.declared.memory.MemorySource.{MemorySource}
-use Rattle.net_links.specs.Links.{AreFresh, IsFresh}
+use Rattle.net_links.specs.Links.{IsFresh}
+use Rattle.test_fakes.specs.Handed.{AreFresh}
+use Rattle.test_fakes.specs.declared.failing.Failing.{Failing}
+use Rattle.test_fakes.specs.declared.memory.MemorySink.{MemorySink}
+use Rattle.test_fakes.specs.declared.memory.MemorySource.{MemorySource}
 
 abbrev pub TestLink : Type 0
 TestLink = Joined (Failing MemorySource) (Failing MemorySink)

@@ -8,7 +8,7 @@ use control_core::Book;
 use core_terms::{Event, Reply};
 use std::alloc::Global;
 use std::process::Abort;
-use test_clusters::cluster;
+use test_fakes::cluster;
 
 /// A cluster in memory, of whose calls some fail.
 pub type TestCluster = FailingAdmin<MemoryCluster>;

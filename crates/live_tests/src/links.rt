@@ -1,12 +1,12 @@
 // Links, copiers and listeners in memory, of whose calls some fail.
 ghost use Rattle.std.specs.Prelude.{◌≡◌, [], Some};
-ghost use Rattle.net_links.specs.Links.{AreFresh};
+ghost use Rattle.test_fakes.specs.Handed.{AreFresh};
 
-use cc_base::{Failing, Joined, MemorySink, MemorySource, Sink};
+use cc_base::{Joined, Sink};
 use cluster_gate::{FailingCopier, MemoryCopier};
-use net_links::{FailingListener, MemoryListener};
 use std::alloc::Global;
 use std::process::Abort;
+use test_fakes::{Failing, FailingListener, MemoryListener, MemorySink, MemorySource};
 
 /// A link, of whose reads and writes some fail. The first of each has the number 0.
 pub type TestLink = Joined<Failing<MemorySource>, Failing<MemorySink>>;

@@ -1,5 +1,5 @@
 // The links of a listener.
-ghost use Rattle.net_links.specs.Links.{AreFresh};
+ghost use Rattle.test_fakes.specs.Handed.{AreFresh};
 
 use crate::links::{
     TestCopier, TestLink, TestListener, copier_of, copiers_of, link_of, listener_of, silent_link,
@@ -11,13 +11,12 @@ use cc_base::Sink;
 use cluster_gate::MemoryCopier;
 use live_service::FrontEnd;
 use mover_rounds::DrainEnd;
-use net_links::MemoryListener;
 use rest_session::LinkEnd;
 use std::alloc::Global;
 use std::process::Abort;
 use std::sync::Wait;
 use std::thread::Threads;
-use test_gates::ReplyGate;
+use test_fakes::{MemoryListener, ReplyGate};
 
 // A link: what it asks, which writes to it fail, and what comes of it where it is served.
 struct Asking {

@@ -1,9 +1,10 @@
 // A journal once more, over a fresh book.
 use crate::books::{TestBook, book_of, let_go, lists_of, reply_to};
 use cluster_gate::{MemoryCopier, Receipt, copy_chunk};
-use core_terms::{Event, Reply};
+use core_terms::{CapChange, Event, Reply};
 use goal_optimizer::optimise;
 use mover_rounds::ToPlan;
+use plan_terms::Measured;
 use rest_replies::{Told, reply_bytes};
 use std::alloc::Global;
 use std::process::Abort;
@@ -62,6 +63,13 @@ fn planned_again<R: Threads + Sync + Abort>(
     Event::Planned(ticket, plan)
 }
 
+// The change of the cluster's cap to this number.
+fn cap<R: Abort>(rt: &R, number: Option<u32>) -> Event {
+    let number = number.expect(rt, "a cap of the cluster");
+    assert!(rt; number >= 1 && number <= 10_000);
+    Event::Caps(CapChange::new(None, Some(number), None))
+}
+
 // An event like this one. A plan is made again, for the job that was given last.
 fn again<R: Threads + Sync + Abort>(
     rt: &R,
@@ -72,6 +80,11 @@ fn again<R: Threads + Sync + Abort>(
     match event {
         Event::Submit(ask, id) => Event::Submit(ask.copy(alloc).expect(rt, "memory"), *id),
         Event::Show(query) => Event::Show(*query),
+        Event::Caps(change) => cap(rt, change.cluster()),
+        Event::Sample(topic, number, time, loads) => {
+            let topic = topic.copy(alloc).expect(rt, "memory");
+            Event::Sample(topic, *number, *time, Measured::new(loads.loads()))
+        }
         Event::PlanTake => Event::PlanTake,
         Event::Planned(ticket, _) => planned_again(rt, alloc, *ticket, job),
         Event::PlanBack(ticket) => Event::PlanBack(*ticket),
@@ -90,7 +103,10 @@ impl Replay {
     // Notes the reply to a request, or to what a worker asked.
     fn note<R: Abort>(&mut self, rt: &R, alloc: Global, event: &Event, reply: Reply) {
         match (event, reply) {
-            (Event::Submit(_, _) | Event::Show(_), reply) => {
+            (
+                Event::Submit(_, _) | Event::Show(_) | Event::Sample(_, _, _, _) | Event::Caps(_),
+                reply,
+            ) => {
                 let bytes = reply_bytes(alloc, &Told::Core(reply)).expect(rt, "memory");
                 self.replies.extend_from_slice(&bytes).expect(rt, "memory");
             }

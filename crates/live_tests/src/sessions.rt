@@ -8,7 +8,7 @@ use mover_rounds::DrainEnd;
 use net_links::Listener;
 use rest_session::LinkEnd;
 use std::process::Abort;
-use test_gates::{PairGate, ReplyGate};
+use test_fakes::{PairGate, ReplyGate};
 
 // Brokers 0 and 1 are removed.
 const REMOVING: Setting = Setting {

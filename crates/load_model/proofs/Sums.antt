@@ -21,27 +21,6 @@ use Rattle.load_model.proofs.Listed.{or_parts}
 use native.Mathlib.Nat.{mul-le-mul}
 
 module _ (g h : Part → ℕ) (b : ℕ) where
-  sum_parts-step : (ps : List Part) (lists : Lists) (i : ℕ) → length lists ≡ length ps → i < length ps
-      → sum_parts (λ p list. list_load (g p) (h p) b list) (drop i ps) (drop i lists)
-      ≡ list_load (get_or (map g ps) i 0) (get_or (map h ps) i 0) b (list_of lists i) + sum_parts (λ p list. list_load (g p) (h p) b list) (drop (suc i) ps) (drop (suc i) lists)
-  sum_parts-step [] lists i e l = absurd (omega arith)
-  sum_parts-step (p ∷ ps) [] i e l = absurd (omega arith)
-  sum_parts-step (p ∷ ps) (list ∷ lists) zero e l = refl
-  sum_parts-step (p ∷ ps) (list ∷ lists) (suc i) e l = sum_parts-step ps lists i (omega arith) (omega arith)
-
-  -- one partition more
-  pub sum_parts-next : (ps : List Part) (lists : Lists) (i total x whole : ℕ) → length lists ≡ length ps → i < length ps
-      → x ≡ list_load (get_or (map g ps) i 0) (get_or (map h ps) i 0) b (list_of lists i)
-      → total + sum_parts (λ p list. list_load (g p) (h p) b list) (drop i ps) (drop i lists) ≡ whole
-      → total + x + sum_parts (λ p list. list_load (g p) (h p) b list) (drop (i + 1) ps) (drop (i + 1) lists) ≡ whole
-  sum_parts-next ps lists i total x whole e l is k = rw add-one (omega (arith, sum_parts-step ps lists i e l))
-
-  pub sum_parts-end : (ps : List Part) (lists : Lists) (i : ℕ) → length ps ≤ i → sum_parts (λ p list. list_load (g p) (h p) b list) (drop i ps) lists ≡ 0
-  sum_parts-end [] lists zero k = refl
-  sum_parts-end [] lists (suc i) k = refl
-  sum_parts-end (p ∷ ps) lists zero k = absurd (omega arith)
-  sum_parts-end (p ∷ ps) lists (suc i) k = sum_parts-end ps lists i (omega arith)
-
   -- each list carries at most m
   sum_parts-le : (m : ℕ) (ps : List Part) (lists : Lists) → ((i : ℕ) → i < length ps → list_load (get_or (map g ps) i 0) (get_or (map h ps) i 0) b (list_of lists i) ≤ m)
       → sum_parts (λ p list. list_load (g p) (h p) b list) ps lists ≤ m * length ps
@@ -133,9 +112,6 @@ sum-below kind c b lists h k =
       sum_parts-le (lead_of kind c.parts) (follow_of kind c.parts) b 34359738360 c.parts lists
           (λ i l. list_load-le (lead_at kind c.parts i) (follow_at kind c.parts i) b 4294967295 (list_of lists i) (lead i) (follow i) (k.each i)),
     )
-
-pub amount-small : (kind : Amount) (c : Cluster) (b : ℕ) (lists : Lists) → IsCase c → IsAssignment lists → sum_parts (share kind c.parts b) c.parts lists < 2 ^ 49
-amount-small kind c b lists h k = sum-below kind c b lists h (Short-assignment lists k)
 
 abbrev unit_if : Bool → ℕ
 unit_if b = cond b 1 0

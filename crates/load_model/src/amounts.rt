@@ -1,10 +1,8 @@
 // What brokers carry, added up over the lists.
-ghost use Rattle.std.specs.Prelude.{◌≡◌, ◌<◌, ◌≤◌, ◌^◌, ◌==◌, length, true, if◌then◌else◌};
-ghost use Rattle.std.specs.List.{count_by};
-ghost use Rattle.plan_terms.specs.Load.{list_load};
-ghost use Rattle.load_model.specs.Amounts.{InRange, amount, counts_places, lead_at, follow_at};
+ghost use Rattle.std.specs.Prelude.{◌≡◌, ◌<◌, ◌^◌, length, if◌then◌else◌};
+ghost use Rattle.load_model.specs.Amounts.{InRange, lead_at, follow_at};
 
-use crate::{Assign, Case};
+use crate::Case;
 use plan_terms::resources;
 
 /// What is added up over a broker's places.
@@ -79,44 +77,4 @@ pub fn weights_at(case: &Case, kind: Amount, part: usize) -> Weights
         Amount::OfTopic(topic) => evenly(one_if(case.topic(part) == topic)),
         Amount::LedInTopic(topic) => at_first(one_if(case.topic(part) == topic)),
     }
-}
-
-fn count_of(list: &[u32], broker: u32) -> usize
-    ensures value { result ≡ count_by (λ x. x == broker) list.now }
-    ensures within { result ≤ length list.now }
-{
-    list.iter().filter(|x| **x == broker).count()
-}
-
-// What one list puts on a broker.
-fn list_amount(weights: Weights, list: &[u32], broker: u32) -> u64
-    requires lead { weights.lead < 2 ^ 32 }
-    requires follow { weights.follow < 2 ^ 32 }
-    requires short { length list.now ≤ 8 }
-    ensures { result ≡ list_load weights.lead weights.follow broker list.now }
-{
-    match list {
-        [] => 0,
-        [first, rest @ ..] => {
-            let lead = if *first == broker { weights.lead } else { 0 };
-            lead + weights.follow * count_of(rest, broker) as u64
-        }
-    }
-}
-
-/// What the broker of an id carries in all, added up afresh: tests hold the table against it.
-pub fn amount_of(case: &Case, lists: &Assign, kind: Amount, broker: u32) -> u64
-    requires one_each { length lists.now ≡ length case.now.parts }
-    requires range { InRange kind case.now.parts }
-    ensures value { result ≡ amount kind case.now.parts broker lists.now }
-    ensures small { result < 2 ^ 49 }
-    ensures few { counts_places kind ≡ true → result ≤ 80000 }
-{
-    let parts = case.parts();
-    let _assignment = lists.lists();
-    let mut total = 0u64;
-    for part in 0..parts.len() {
-        total += list_amount(weights_at(case, kind, part), lists.list(part), broker);
-    }
-    total
 }

@@ -95,13 +95,6 @@ impl LoadBook {
         &self.lists
     }
 
-    /// The lists as they stand, without a copy.
-    pub fn into_lists(self) -> Assign
-        ensures { result ≡ self.lists }
-    {
-        self.lists
-    }
-
     /// The case that the book was made for and the lists as they stand, without a copy.
     pub fn into_parts(self) -> (Case, Assign)
         ensures case { result.0 ≡ self.cluster }

@@ -14,7 +14,3 @@ mod topics;
 pub use assign::Assign;
 pub use book::LoadBook;
 pub use case::Case;
-pub use plan_terms::{
-    Broker, BrokerState, CaseFault, GoalName, Limit, Loads, Memory, Options, Part, RackName, Ratio,
-    Replicas, Res4, Topic,
-};

@@ -7,5 +7,4 @@ mod tally;
 mod windows;
 
 pub use fault::SampleFault;
-pub use plan_terms::{Loads, Memory, Res4};
 pub use windows::Windows;

@@ -8,8 +8,6 @@ mod legality;
 mod listing;
 
 pub use effects::{Moves, place_of};
-pub use goal_terms::{Heat, Room};
 pub use goals::{Goal, measure};
 pub use legality::{is_open, legal};
-pub use listing::{all_actions, legal_leads, legal_moves, legal_swaps};
-pub use plan_terms::{Action, Actions};
+pub use listing::all_actions;

@@ -234,54 +234,6 @@ fn push_swaps(case: &Case, lists: &[Replicas], out: &mut Vec<Action>) -> Result<
     Ok(())
 }
 
-/// The legal moves of one partition, by the places of source and target in the case.
-pub fn legal_moves(
-    alloc: Global,
-    case: &Case,
-    lists: &Assign,
-    part: u32,
-) -> Result<Vec<Action>, Memory>
-    ensures { IfOk result
-        (λ v. v.items ≡ filter (is_legal case.now lists.now) (moves_of case.now.brokers part)) }
-{
-    let mut out = Vec::new(alloc);
-    push_moves_of(case, lists.lists(), part, &mut out)?;
-    Ok(out)
-}
-
-/// The legal leads of one partition, by the place of the new leader in the case.
-pub fn legal_leads(
-    alloc: Global,
-    case: &Case,
-    lists: &Assign,
-    part: u32,
-) -> Result<Vec<Action>, Memory>
-    ensures { IfOk result
-        (λ v. v.items ≡ filter (is_legal case.now lists.now) (leads_of case.now.brokers part)) }
-{
-    let mut out = Vec::new(alloc);
-    push_leads_of(case, lists.lists(), part, &mut out)?;
-    Ok(out)
-}
-
-/// The legal swaps of one partition with later ones, by the place of its broker in the case, the
-/// other partition, and the place of the other broker.
-pub fn legal_swaps(
-    alloc: Global,
-    case: &Case,
-    lists: &Assign,
-    part: u32,
-) -> Result<Vec<Action>, Memory>
-    ensures { IfOk result
-        (λ v. v.items
-        ≡ filter (is_legal case.now lists.now)
-        (swaps_of case.now.brokers (length lists.now) part)) }
-{
-    let mut out = Vec::new(alloc);
-    push_swaps_of(case, lists.lists(), part, &mut out)?;
-    Ok(out)
-}
-
 /// Every legal action on the lists, once, in order: the moves by partition and the places of source
 /// and target in the case; the leads by partition and the new leader's place; the swaps by
 /// partition, the place of its broker, the other partition and the place of the other broker.

@@ -11,7 +11,6 @@ mod takes;
 mod work;
 
 pub use asker::Asker;
-pub use core_terms::{PumpEnd, StepFault};
 pub use drains::{DrainEnd, drain};
 pub use ends::{end_with, give_back, tell};
 pub use pumps::{pump, pump_book};

@@ -8,7 +8,6 @@ mod steps;
 mod workers;
 
 pub use caller::Caller;
-pub use core_terms::PumpEnd;
 pub use loops::{LoopEnd, make_moves, make_plans};
 pub use rests::Rests;
 pub use steps::Step;

@@ -1,21 +1,61 @@
 // Small clusters of all states and loads. On their lists, and on those that the plan for all goals
 // leads to, the planner's search and the plain scan of all legal actions find something for the
 // same goals; and the trace of the plan is good.
+ghost use Rattle.std.specs.Prelude.{◌≡◌, true};
 ghost use Rattle.std.specs.List.{All};
 ghost use Rattle.candidate_order.specs.Order.{IsOrderOf};
 ghost use Rattle.plan_terms.specs.Belongs.{Belongs, IsBookOf};
+ghost use Rattle.plan_terms.specs.Legal.{is_legal};
 
 use crate::clusters::CLUSTERS;
-use candidate_order::{Order, Scan, next_lessening, plain_next};
+use candidate_order::{Order, Scan, all_accept, next_lessening};
 use goal_optimizer::{PlanFault, optimise};
 use goal_set::{GoalList, Trace, goals_of};
 use load_model::{Assign, Case, LoadBook};
-use move_actions::Goal;
+use move_actions::{Goal, all_actions};
 use plan_check::{Verdict, check};
+use plan_terms::{Action, Memory};
 use std::alloc::Global;
 use std::process::Abort;
 use std::thread::Threads;
-use test_clusters::cluster;
+use test_fakes::cluster;
+
+// The first of some legal actions that the earlier goals accept and that lessens the goal.
+fn first_of<G: Goal>(
+    case: &Case,
+    book: &LoadBook,
+    earlier: &[G],
+    goal: &G,
+    actions: &[Action],
+) -> Option<Action>
+    requires made { All (λ g. G.made_for g case.now) earlier.now }
+    requires made_goal { G.made_for goal.now case.now }
+    requires belongs { IsBookOf case.now book.now }
+    requires legal { All (λ a. is_legal case.now book.now.lists a ≡ true) actions.now }
+{
+    for action in actions {
+        if goal.lessens(case, book, *action) && all_accept(case, book, earlier, *action) {
+            return Some(*action);
+        }
+    }
+    None
+}
+
+// The first of all legal actions, in order, that does so.
+fn plain_next<G: Goal>(
+    alloc: Global,
+    case: &Case,
+    book: &LoadBook,
+    earlier: &[G],
+    goal: &G,
+) -> Result<Option<Action>, Memory>
+    requires made { All (λ g. G.made_for g case.now) earlier.now }
+    requires made_goal { G.made_for goal.now case.now }
+    requires belongs { IsBookOf case.now book.now }
+{
+    let actions = all_actions(alloc, case, book.lists())?;
+    Ok(first_of(case, book, earlier, goal, &actions))
+}
 
 // Both find an action for the goal behind those before it, or neither does.
 fn expect_same<G: Goal + Sync, R: Threads + Sync + Abort>(

@@ -8,5 +8,4 @@ mod text;
 
 pub use changes::proposals;
 pub use laws::{proposals_lead_from_before_to_after, texts_on_literals};
-pub use plan_terms::Proposal;
 pub use text::{assignment_text, reassignment_text};

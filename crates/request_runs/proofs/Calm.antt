@@ -30,7 +30,7 @@ use Rattle.exec_terms.proofs.Events.{next_step-no_cancel}
 use Rattle.exec_terms.proofs.Gives.{none_any}
 use Rattle.exec_terms.proofs.Launch.{length-each_below, get_or-each_below}
 use Rattle.exec_terms.proofs.WorkLeft.{position-None}
-use Rattle.executor_core.specs.Alone.{proposal_of}
+use Rattle.executor_core.specs.Kept.{proposal_of}
 use Rattle.exec_terms.proofs.Changes.{all_lead, unchanged}
 
 -- the task goes on, or has its new list

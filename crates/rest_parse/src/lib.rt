@@ -10,5 +10,5 @@ mod query;
 mod routes;
 
 pub use calls::{Call, HttpFault, ParameterName, request_of};
-pub use rest_stream::{Bytes, Next, RawRequest, Reader, Stop, Whole, read_whole};
+pub use rest_stream::Stop;
 pub use routes::{Endpoint, Routes};

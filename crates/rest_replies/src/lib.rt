@@ -12,7 +12,6 @@ mod shows;
 mod texts;
 mod told;
 
-pub use core_terms::PumpEnd;
 pub use laws::memory_reply_is_a_reply;
 pub use replies::{MEMORY_REPLY, reply_bytes};
 pub use told::Told;

@@ -1,5 +1,5 @@
 use Rattle.std.proofs.Common.{◌∙◌, refl, inl, inr}
-use Rattle.cc_program.specs.declared.ends.End.TheVariants as end
+use Rattle.quiet_commands.specs.declared.ends.End.TheVariants as end
 use Rattle.cc_program.proofs.entry.run_threads.Goals as goal
 
 pub returns-in_default : goal.returns-in_default

@@ -1,4 +1,4 @@
-use Rattle.net_links.specs.Links.{AreFresh}
+use Rattle.test_fakes.specs.Handed.{AreFresh}
 use Rattle.live_tests.proofs.Fresh.{written}
 use Rattle.live_tests.proofs.listeners.links_of.Given as goal
 

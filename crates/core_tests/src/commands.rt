@@ -1,0 +1,175 @@
+// What words mean, as they come from a shell.
+use crate::texts::push;
+use command_words::{Command, Goals, Workers, read_words, wants_live};
+use plan_terms::Topic;
+use std::alloc::Global;
+use std::process::Abort;
+
+fn push_goals(rt: &impl Abort, text: &mut String, goals: &Goals) {
+    for name in &goals.names {
+        push(rt, text, " goal ");
+        push(rt, text, name.as_str());
+    }
+    let skips = goals.skip_hard_goal_check;
+    push(rt, text, if skips { " skip" } else { "" });
+}
+
+fn push_topics(rt: &impl Abort, text: &mut String, topics: &[Topic]) {
+    for topic in topics {
+        push(rt, text, " without ");
+        push(rt, text, topic.as_str());
+    }
+}
+
+// A command without goals and topics, in words.
+fn begun(rt: &impl Abort, alloc: Global, command: &Command) -> String {
+    let said = match command {
+        Command::Plan(o) => format!(in alloc; "plan {} {}", o.file, o.trace),
+        Command::Check(o) => format!(in alloc; "check {} {}", o.file, o.trace),
+        Command::Apply(o) => format!(in alloc; "apply {}", o.file),
+        Command::Gen(o) => format!(in alloc;
+            "gen {} {} {} {}",
+            o.seed, o.brokers, o.partitions, o.file
+        ),
+        Command::Session(o) => {
+            let Workers { movers, planners } = o.workers;
+            format!(in alloc; "session {} {movers} {planners}", o.file)
+        }
+        Command::Serve(o) => {
+            let Workers { movers, planners } = o.workers;
+            format!(in alloc;
+                "serve {} {movers} {planners} {} {}",
+                o.file, o.listen, o.links
+            )
+        }
+    };
+    said.expect(rt, "memory")
+}
+
+// A command, in words.
+fn told(rt: &impl Abort, alloc: Global, command: &Command) -> String {
+    let mut text = begun(rt, alloc, command);
+    match command {
+        Command::Plan(o) => {
+            push_goals(rt, &mut text, &o.goals);
+            push_topics(rt, &mut text, &o.excluded_topics);
+        }
+        Command::Check(o) => {
+            push_goals(rt, &mut text, &o.goals);
+            push_topics(rt, &mut text, &o.excluded_topics);
+        }
+        Command::Apply(o) => {
+            push_goals(rt, &mut text, &o.goals);
+            push_topics(rt, &mut text, &o.excluded_topics);
+        }
+        Command::Gen(o) => push_goals(rt, &mut text, &o.goals),
+        Command::Session(_) | Command::Serve(_) => {}
+    }
+    text
+}
+
+// The words between the blanks: two blanks make an empty word.
+fn split(rt: &impl Abort, alloc: Global, line: &str) -> Vec<String> {
+    let mut words = Vec::new(alloc);
+    for word in line.split(' ') {
+        let word = String::from_str(alloc, word).expect(rt, "memory");
+        words.push(word).expect(rt, "memory");
+    }
+    words
+}
+
+// Words that are taken, and what they mean.
+const LINES: [(&str, &str); 27] = [
+    ("plan F", "plan F false"),
+    ("plan F --goals A", "plan F false goal A"),
+    ("plan F --goals=A,B", "plan F false goal A goal B"),
+    ("plan --goals B,,A F", "plan F false goal B goal  goal A"),
+    ("plan F --goals ", "plan F false"),
+    ("plan F --goals=", "plan F false"),
+    ("plan F --goals ,", "plan F false goal  goal "),
+    ("plan F --skip-hard-goal-check", "plan F false skip"),
+    ("plan F --excluded-topics x", "plan F false without x"),
+    (
+        "plan F --excluded-topics=x,y",
+        "plan F false without x without y",
+    ),
+    ("plan F --trace", "plan F true"),
+    (
+        "plan --trace --excluded-topics t --skip-hard-goal-check --goals G F",
+        "plan F true goal G skip without t",
+    ),
+    ("plan -- --trace", "plan --trace false"),
+    ("check F T", "check F T"),
+    (
+        "check F --goals A T --skip-hard-goal-check --excluded-topics x",
+        "check F T goal A skip without x",
+    ),
+    ("apply F", "apply F"),
+    (
+        "apply F --excluded-topics x --goals A --skip-hard-goal-check",
+        "apply F goal A skip without x",
+    ),
+    ("gen 0", "gen 0 40 2000 false"),
+    ("gen 2147483647", "gen 2147483647 40 2000 false"),
+    (
+        "gen 7 --brokers 1 --partitions 0 --file --goals A --skip-hard-goal-check",
+        "gen 7 1 0 true goal A skip",
+    ),
+    (
+        "gen 7 --brokers=200 --partitions=10000",
+        "gen 7 200 10000 false",
+    ),
+    ("session F", "session F 0 0"),
+    ("session F --movers 64 --planners=4", "session F 64 4"),
+    ("session --planners 0 --movers=0 F", "session F 0 0"),
+    ("serve F", "serve F 0 0 127.0.0.1:9090 1"),
+    (
+        "serve F --movers=2 --planners 1 --listen 0.0.0.0:80 --links 64",
+        "serve F 2 1 0.0.0.0:80 64",
+    ),
+    ("serve F --links=1", "serve F 0 0 127.0.0.1:9090 1"),
+];
+
+#[test]
+fn words_mean_their_command(rt: HostRuntime) {
+    let alloc = rt.alloc();
+    for (line, want) in &LINES {
+        let words = split(&rt, alloc, line);
+        let Ok(command) = read_words(alloc, &words) else {
+            panic!(rt; "{line}");
+        };
+        let text = told(&rt, alloc, &command);
+        assert_eq!(rt; text.as_str(), *want, "{line}");
+    }
+}
+
+// Words, and whether they want a run with threads or a listener.
+const LIVE: [(&str, bool); 18] = [
+    ("plan F", false),
+    ("plan F --movers 2", false),
+    ("serve F", true),
+    ("serve", true),
+    ("session F", false),
+    ("session F --movers", false),
+    ("session F --movers 0", false),
+    ("session F --movers=0", false),
+    ("session F --movers=", true),
+    ("session F --movers 2", true),
+    ("session F --movers=00", true),
+    ("session --movers 0 F --planners 1", true),
+    ("session F --planners 0", false),
+    ("session F --planners=0 --movers=0", false),
+    ("session F --planners=4", true),
+    ("session F --planners ", true),
+    ("session F --mover=2", false),
+    ("F serve", false),
+];
+
+#[test]
+fn sessions_with_workers_and_services_want_a_live_run(rt: HostRuntime) {
+    let alloc = rt.alloc();
+    for (line, want) in &LIVE {
+        let words = split(&rt, alloc, line);
+        assert_eq!(rt; wants_live(&words), *want, "{line}");
+    }
+}

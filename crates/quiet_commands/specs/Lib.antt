@@ -1,0 +1,11 @@
+pub mod Applied
+pub mod Checked
+pub mod Commands
+pub mod Edges
+pub mod Ends
+pub mod Generated
+pub mod Input
+pub mod Planned
+pub mod Runs
+pub mod Sessions
+pub mod Complete

@@ -1,0 +1,119 @@
+// What the words ask of a run that waits for nobody.
+ghost use Rattle.std.specs.Prelude.{◌≡◌, None, Some, map, string_bytes, IfErr, IfOk, IsSome};
+ghost use Rattle.command_words.specs.Meaning.{goals_told};
+ghost use Rattle.core_terms.specs.Asked.{goals_fault};
+ghost use Rattle.quiet_commands.specs.Commands.{asked, command, rebalance};
+
+use crate::gens::Recipe;
+use crate::planning::Planning;
+use command_words::{Command, Goals, WordsFault, read_words};
+use core_cases::goals_of;
+use goal_set::GoalFault;
+use plan_terms::{ListOf, Topic};
+use std::alloc::Global;
+use user_tasks::{Ask, Op};
+
+/// A command.
+#[derive(Drop)]
+pub enum Request {
+    /// Plans, and writes the plan or its trace.
+    Plan {
+        file: String,
+        trace: bool,
+        planning: Planning,
+    },
+    /// Checks a trace against the file.
+    Check {
+        file: String,
+        trace: String,
+        planning: Planning,
+    },
+    /// Plans, carries the plan out on one thread, and writes all lists.
+    Apply {
+        file: String,
+        planning: Planning,
+    },
+    /// Makes a cluster from a seed, and writes the summary of a plan for it.
+    Gen {
+        recipe: Recipe,
+        /// The cluster file itself is written.
+        whole: bool,
+        planning: Planning,
+    },
+    /// Answers the requests of the input, with no movers and no planners of its own.
+    Session {
+        file: String,
+    },
+}
+
+// A rebalance with these goals, unless their names are refused.
+fn rebalance(alloc: Global, goals: Goals, excluded: Vec<Topic>) -> Result<Planning, WordsFault>
+    ensures ok { IfOk result
+        (λ p. (p.ask ≡ rebalance (goals_told goals) excluded.items) × (goals_fault p.ask ≡ None)) }
+    ensures usage { IfErr result
+        (λ e. e ≡ WordsFault.Usage
+        → IsSome (goals_fault (rebalance (goals_told goals) excluded.items))) }
+{
+    let Goals {
+        names,
+        skip_hard_goal_check,
+    } = goals;
+    let ask = Ask {
+        op: Op::Rebalance,
+        brokers: ListOf::new(Vec::new(alloc)),
+        goals: ListOf::new(names),
+        skip: skip_hard_goal_check,
+        excluded: ListOf::new(excluded),
+        dryrun: false,
+    };
+    match goals_of(alloc, &ask) {
+        Ok(goals) => Ok(Planning { ask, goals }),
+        Err(GoalFault::Memory) => Err(WordsFault::Memory),
+        Err(_) => Err(WordsFault::Usage),
+    }
+}
+
+/// The command that the words ask of a run that waits for nobody.
+///
+/// # Errors
+///
+/// `WordsFault::Usage` where they ask none: where they mean no command, where the names of its
+/// goals are refused, and where the command belongs to a run with threads or a listener.
+/// `WordsFault::Memory` out of memory.
+pub fn read_request(alloc: Global, words: &[String]) -> Result<Request, WordsFault>
+    ensures ok { IfOk result (λ r. command (map string_bytes words.now) ≡ Some (asked r)) }
+    ensures usage { IfErr result
+        (λ e. e ≡ WordsFault.Usage → command (map string_bytes words.now) ≡ None) }
+{
+    match read_words(alloc, words)? {
+        Command::Plan(options) => Ok(Request::Plan {
+            file: options.file,
+            trace: options.trace,
+            planning: rebalance(alloc, options.goals, options.excluded_topics)?,
+        }),
+        Command::Check(options) => Ok(Request::Check {
+            file: options.file,
+            trace: options.trace,
+            planning: rebalance(alloc, options.goals, options.excluded_topics)?,
+        }),
+        Command::Apply(options) => Ok(Request::Apply {
+            file: options.file,
+            planning: rebalance(alloc, options.goals, options.excluded_topics)?,
+        }),
+        Command::Gen(options) => {
+            let recipe = Recipe {
+                seed: options.seed,
+                brokers: options.brokers,
+                partitions: options.partitions,
+            };
+            Ok(Request::Gen {
+                recipe,
+                whole: options.file,
+                planning: rebalance(alloc, options.goals, Vec::new(alloc))?,
+            })
+        }
+        Command::Session(options) if options.workers.movers == 0 && options.workers.planners == 0 =>
+            { Ok(Request::Session { file: options.file }) }
+        _ => Err(WordsFault::Usage),
+    }
+}

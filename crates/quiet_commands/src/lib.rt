@@ -1,0 +1,20 @@
+//! The commands that wait for nobody: what their words ask, done over files, an input and an output
+//! that the caller gives.
+#![tactic(auto)]
+
+mod answers;
+mod applies;
+mod checks;
+mod commands;
+mod ends;
+mod gens;
+mod input;
+mod planning;
+mod plans;
+mod quiet;
+mod sessions;
+
+pub use commands::Request;
+pub use ends::{End, conclude};
+pub use quiet::{LoadFault, load, run_quiet};
+pub use sessions::{drained_end, ended_by};

@@ -1,0 +1,324 @@
+// The commands that wait for nobody.
+ghost use Rattle.std.specs.Prelude.{◌≡◌, ◌≤◌, ◌⊎◌, List, ℕ, map, Some, None, string_bytes, IfOk, IfSome, IsErrOf, OnErr, OnOk};
+ghost use Rattle.cc_base.specs.Outside.{HasRisen, with_name};
+ghost use Rattle.cluster_json.specs.Faults.{Fault};
+ghost use Rattle.cluster_json.specs.Ranges.{IsFile};
+ghost use Rattle.cluster_json.specs.Reading.{fault_of};
+ghost use Rattle.cluster_json.specs.Views.{file_seen};
+ghost use Rattle.core_terms.specs.Asked.{goals_of};
+ghost use Rattle.quiet_commands.specs.Checked.{IsChecked};
+ghost use Rattle.quiet_commands.specs.Commands.{Asked, AsksSession, HasFile, IsInputKept, asked, command, source_of, with_source};
+ghost use Rattle.quiet_commands.specs.Complete.{HasFailed, IsWell, IsWellGiven};
+ghost use Rattle.quiet_commands.specs.Edges.{edge_told};
+ghost use Rattle.quiet_commands.specs.Ends.{IsTold, line_of, status_of};
+ghost use Rattle.quiet_commands.specs.Input.{IsRefused, planned_for};
+ghost use Rattle.quiet_commands.specs.Runs.{AsksFile, IsRefusal, LoadLogs, Loads, LoadsAll, LoadsFile, Logs, PerformLogs, Performs, Ran, Runs, TellsRefusal};
+ghost use Rattle.quiet_commands.specs.declared.ends.End.{End};
+
+use crate::answers::{Answer, write};
+use crate::applies::apply;
+use crate::checks::judge;
+use crate::commands::{Request, read_request};
+use crate::ends::{End, conclude};
+use crate::gens::generated;
+use crate::input::{loaded_for, refusal_line};
+use crate::planning::Planning;
+use crate::plans::plan;
+use crate::sessions::session;
+use cc_base::{FileFault, Files, Link, Sink};
+use cluster_json::{ClusterFile, FileRefusal, read_cluster};
+use command_words::WordsFault;
+use plan_terms::Memory;
+use std::alloc::Global;
+use std::thread::Threads;
+
+/// Why a cluster was not read.
+#[derive(Debug, Drop)]
+pub enum LoadFault {
+    /// The line that tells the first fault of its text.
+    Refused(Vec<u8>),
+    Failed,
+    Memory,
+}
+
+// A refusal with its line, unless memory ran out.
+fn refused(alloc: Global, refusal: &FileRefusal) -> LoadFault
+    ensures { TellsRefusal (fault_of refusal.now) result }
+{
+    match refusal {
+        FileRefusal::Memory => LoadFault::Memory,
+        refusal => match refusal_line(alloc, refusal) {
+            Ok(line) => LoadFault::Refused(line),
+            Err(Memory) => LoadFault::Memory,
+        },
+    }
+}
+
+// The bytes that a command's cluster is read from.
+fn source<F: Files>(alloc: Global, files: &mut F, request: &Request) -> Result<Vec<u8>, FileFault>
+    ensures later { F.faults files.old ≤ F.faults files.new }
+    ensures cause { IsErrOf result FileFault.Failed → HasFile (asked request.now)
+        × HasRisen (F.faults files.old) (F.faults files.new) }
+    ensures bytes { IfOk result (λ v. IfSome (source_of (F.contents files.old) (asked request.now))
+        (λ told. v.items ≡ told)) }
+    ensures contents { F.contents files.new ≡ F.contents files.old }
+    ensures read { OnOk result (F.log files.new
+        ≡ with_source (F.log files.old) (asked request.now)) }
+    ensures failed { OnErr result ((F.log files.new ≡ F.log files.old)
+        ⊎ (F.log files.new ≡ with_source (F.log files.old) (asked request.now))) }
+{
+    match request {
+        Request::Plan { file, .. } => files.load(alloc, file),
+        Request::Check { file, .. } => files.load(alloc, file),
+        Request::Apply { file, .. } => files.load(alloc, file),
+        Request::Gen { recipe, .. } => Ok(recipe.text(alloc)?),
+        Request::Session { file } => files.load(alloc, file),
+    }
+}
+
+/// Loads the cluster that a request is about.
+pub fn load<F: Files>(
+    alloc: Global,
+    files: &mut F,
+    request: &Request,
+) -> Result<ClusterFile, LoadFault>
+    ensures later { F.faults files.old ≤ F.faults files.new }
+    ensures loads { Loads (F.contents files.old) (asked request.now)
+        (F.faults files.old) (F.faults files.new) result }
+    ensures file { IfOk result IsFile }
+    ensures contents { F.contents files.new ≡ F.contents files.old }
+    ensures logs { LoadLogs (F.log files.old) (F.log files.new) (asked request.now) result }
+{
+    match source(alloc, files, request) {
+        Ok(bytes) => read_cluster(alloc, &bytes).map_err(|e| refused(alloc, &e)),
+        Err(FileFault::Failed) => Err(LoadFault::Failed),
+        Err(FileFault::Memory) => Err(LoadFault::Memory),
+    }
+}
+
+// What `check` makes of what the file means. It loads its trace.
+fn check<F: Files, R: Threads + Sync>(
+    rt: &R,
+    alloc: Global,
+    files: &mut F,
+    trace: &str,
+    file: ClusterFile,
+    planning: &Planning,
+) -> Result<Answer, FileFault>
+    requires { IsFile file }
+    ensures later { F.faults files.old ≤ F.faults files.new }
+    ensures cause { IsErrOf result FileFault.Failed
+        → HasRisen (F.faults files.old) (F.faults files.new) }
+    ensures made { IfOk result
+        (λ a. IsChecked (F.contents files.old trace.now)
+        (planned_for planning.now.ask (file_seen file)) (goals_of planning.now.ask) a.text.items
+        a.end) }
+    ensures log { OnOk result (F.log files.new ≡ with_name (F.log files.old) trace.now) }
+{
+    let loaded = loaded_for(alloc, file, &planning.ask)?;
+    let bytes = files.load(alloc, trace)?;
+    Ok(judge(rt, alloc, &loaded, &planning.goals, &bytes)?)
+}
+
+// Does what is asked of what the file means.
+fn perform<F: Files, L: Link, R: Threads + Sync>(
+    rt: &R,
+    alloc: Global,
+    files: &mut F,
+    console: &mut L,
+    request: Request,
+    file: ClusterFile,
+) -> End
+    // The file was read.
+    requires { IsFile file }
+    // Faults are counted, and never fewer.
+    ensures files { F.faults files.old ≤ F.faults files.new }
+    ensures out { L.Sink.faults console.old ≤ L.Sink.faults console.new }
+    // The command did what its words want.
+    ensures performs { Performs (asked request) (file_seen file)
+        (edge_told F.Files L.Source L.Sink files.old files.new console.old console.new) result }
+    ensures logs { PerformLogs (asked request) (F.log files.old) (F.log files.new) result }
+    // What is read of the input.
+    ensures input { IsInputKept (asked request) (L.left console.old) (L.left console.new)
+        (L.Source.faults console.old) (L.Source.faults console.new) }
+    ensures source { L.Source.faults console.old ≤ L.Source.faults console.new }
+{
+    match request {
+        Request::Plan {
+            trace,
+            planning,
+            ..
+        } => write(console, plan(rt, alloc, file, &planning, trace)),
+        Request::Apply { planning, .. } => write(console, apply(rt, alloc, file, planning)),
+        Request::Gen {
+            recipe,
+            whole,
+            planning,
+        } => write(
+            console,
+            generated(rt, alloc, file, &recipe, whole, &planning),
+        ),
+        Request::Session { .. } => session(rt, alloc, file, console),
+        Request::Check {
+            trace,
+            planning,
+            ..
+        } => match check(rt, alloc, files, &trace, file, &planning) {
+            Ok(answer) => write(console, Ok(answer)),
+            Err(FileFault::Failed) => End::FileFault,
+            Err(FileFault::Memory) => End::Memory,
+        },
+    }
+}
+
+fn run<F: Files, L: Link, R: Threads + Sync>(
+    rt: &R,
+    alloc: Global,
+    words: &[String],
+    files: &mut F,
+    console: &mut L,
+) -> End
+    // Counts never fall.
+    ensures files { F.faults files.old ≤ F.faults files.new }
+    ensures out { L.Sink.faults console.old ≤ L.Sink.faults console.new }
+    // What each end says.
+    ensures runs { Runs (map string_bytes words.now)
+        (edge_told F.Files L.Source L.Sink files.old files.new console.old console.new) result }
+    // Which files were loaded.
+    ensures logs { Logs (map string_bytes words.now) (F.log files.old) (F.log files.new) result }
+    ensures alone { (asked : Asked) (bytes : List ℕ) (fault : Fault)
+        → command (map string_bytes words.now) ≡ Some asked
+        → source_of (F.contents files.old) asked ≡ Some bytes → IsRefused bytes fault
+        → (F.log files.new ≡ F.log files.old)
+        ⊎ (F.log files.new ≡ with_source (F.log files.old) asked) }
+    // What was read.
+    ensures input { AsksSession (map string_bytes words.now)
+        ⊎ ((L.left console.new ≡ L.left console.old)
+        × (L.Source.faults console.new ≡ L.Source.faults console.old)) }
+    ensures source { L.Source.faults console.old ≤ L.Source.faults console.new }
+{
+    let request = match read_request(alloc, words) {
+        Ok(request) => request,
+        Err(WordsFault::Usage) => return End::Usage,
+        Err(WordsFault::Memory) => return End::Memory,
+    };
+    match load(alloc, files, &request) {
+        Ok(file) => perform(rt, alloc, files, console, request, file),
+        Err(LoadFault::Refused(line)) => End::Refused(line),
+        Err(LoadFault::Failed) => End::FileFault,
+        Err(LoadFault::Memory) => End::Memory,
+    }
+}
+
+/// Runs a command that waits for nobody, and answers the exit status: 0 where it is done, 2 for
+/// words that are no command, 3 for a cluster's text that is refused, 4 for a hard goal that fails,
+/// 5 for a fault of the files, 6 and 7 for a fault of the input and of the output, 9 for want of
+/// memory, 10 for an input that ended inside a request or couldn't be framed, and 11 for a trace
+/// that is refused. An answer goes to the console once it is whole in memory; a session's replies
+/// go there one after another. One line on any end but 0 goes to `err`; what becomes of that line
+/// changes nothing.
+///
+/// The console is the input and the output, as one link. What is said of contents, and of which
+/// files were loaded, holds where `files` and the console tell it, as those over memory do. Only a
+/// session reads the input.
+pub fn run_quiet<R: Threads + Sync, F: Files, L: Link, O: Sink>(
+    rt: &R,
+    alloc: Global,
+    words: &[String],
+    files: &mut F,
+    console: &mut L,
+    err: &mut O,
+) -> u8
+    // How it ended, with what stands behind that end, and its line on the error stream, or a prefix
+    // of the line where that fails.
+    ensures ended { (end : End) × (result ≡ status_of end)
+        × Runs (map string_bytes words.now)
+        (edge_told F.Files L.Source L.Sink files.old files.new console.old console.new) end
+        × IsTold (line_of end) (O.written err.old) (O.written err.new) (O.faults err.old)
+        (O.faults err.new) }
+    ensures statuses { (result ≡ 0) ⊎ (result ≡ 2) ⊎ (result ≡ 3) ⊎ (result ≡ 4) ⊎ (result ≡ 5)
+        ⊎ (result ≡ 6) ⊎ (result ≡ 7) ⊎ (result ≡ 9) ⊎ (result ≡ 10) ⊎ (result ≡ 11) }
+    // 0: the output grew by a text that the command makes of what its cluster's text means; or the
+    // session was served to its end and drained.
+    ensures done { result ≡ 0 → Ran (map string_bytes words.now)
+        (edge_told F.Files L.Source L.Sink files.old files.new console.old console.new) End.Done }
+    // 11: it grew by the first fault of a trace that isn't good for what the file means.
+    ensures trace { result ≡ 11
+        → Ran (map string_bytes words.now)
+        (edge_told F.Files L.Source L.Sink files.old files.new console.old console.new)
+        End.TraceRefused }
+    // 6 and 10: a session was served up to a read that failed, or up to where its input is cut.
+    ensures read { result ≡ 6
+        → Ran (map string_bytes words.now)
+        (edge_told F.Files L.Source L.Sink files.old files.new console.old console.new)
+        End.ReadFault }
+    ensures input { result ≡ 6
+        → HasRisen (L.Source.faults console.old) (L.Source.faults console.new) }
+    ensures cut { result ≡ 10
+        → Ran (map string_bytes words.now)
+        (edge_told F.Files L.Source L.Sink files.old files.new console.old console.new)
+        End.InputCut }
+    // 7: only where the output's count rose. A prefix of such a text is out, or of a session's
+    // replies.
+    ensures prefix { result ≡ 7
+        → Ran (map string_bytes words.now)
+        (edge_told F.Files L.Source L.Sink files.old files.new console.old console.new)
+        End.WriteFault }
+    ensures output { result ≡ 7 → HasRisen (L.Sink.faults console.old) (L.Sink.faults console.new) }
+    // 2: only where the words are no command, and there unless memory runs out.
+    ensures usage { result ≡ 2 → command (map string_bytes words.now) ≡ None }
+    ensures refuses_words { command (map string_bytes words.now) ≡ None
+        → (result ≡ 2) ⊎ (result ≡ 9) }
+    // 3: only where the file, or the text that is made, has a fault, whose line is told, and there
+    // unless the files or memory fail.
+    ensures refused { result ≡ 3
+        → (line : List ℕ) × IsRefusal (map string_bytes words.now) (F.contents files.old) line
+        × IsTold line (O.written err.old) (O.written err.new) (O.faults err.old)
+        (O.faults err.new) }
+    ensures refuses { (asked : Asked) (bytes : List ℕ) (fault : Fault)
+        → command (map string_bytes words.now) ≡ Some asked
+        → source_of (F.contents files.old) asked ≡ Some bytes
+        → IsRefused bytes fault → (result ≡ 3) ⊎ (result ≡ 5) ⊎ (result ≡ 9) }
+    // 5: only where the files' count rose, of a command that reads its cluster from a file.
+    ensures files { result ≡ 5 → AsksFile (map string_bytes words.now)
+        × HasRisen (F.faults files.old) (F.faults files.new) }
+    // Nothing is written on 2, 3 and 5; on 9 only by a session.
+    ensures silent { (result ≡ 2) ⊎ (result ≡ 3) ⊎ (result ≡ 5)
+        → L.written console.new ≡ L.written console.old }
+    ensures memory { result ≡ 9 → (L.written console.new ≡ L.written console.old)
+        ⊎ AsksSession (map string_bytes words.now) }
+    // FILE is loaded before TRACE, and nothing else is. 0, 4, 6, 7, 10 and 11: all files of the
+    // command, in their order.
+    ensures loaded { (result ≡ 0) ⊎ (result ≡ 4) ⊎ (result ≡ 6) ⊎ (result ≡ 7) ⊎ (result ≡ 10)
+        ⊎ (result ≡ 11)
+        → LoadsAll (map string_bytes words.now) (F.log files.old) (F.log files.new) }
+    // 2: none. 3: the cluster file alone, and no more than that wherever it has a fault.
+    ensures unloaded { result ≡ 2 → F.log files.new ≡ F.log files.old }
+    ensures loaded_alone { result ≡ 3 → LoadsFile (map string_bytes words.now)
+        (F.log files.old) (F.log files.new) }
+    ensures alone { (asked : Asked) (bytes : List ℕ) (fault : Fault)
+        → command (map string_bytes words.now) ≡ Some asked
+        → source_of (F.contents files.old) asked ≡ Some bytes → IsRefused bytes fault
+        → (F.log files.new ≡ F.log files.old)
+        ⊎ (F.log files.new ≡ with_source (F.log files.old) asked) }
+    // 0, 4 of a plan, 11 of a trace, or 9: wherever all that was given is as it should be, and no
+    // call outside failed.
+    ensures complete { (asked : Asked)
+        → IsWellGiven (map string_bytes words.now)
+        (edge_told F.Files L.Source L.Sink files.old files.new console.old console.new) asked
+        → IsWell asked result ⊎ (result ≡ 9)
+        ⊎ HasFailed
+        (edge_told F.Files L.Source L.Sink files.old files.new console.old console.new) }
+    // Only a session reads the input.
+    ensures left_alone { AsksSession (map string_bytes words.now)
+        ⊎ ((L.left console.new ≡ L.left console.old)
+        × (L.Source.faults console.new ≡ L.Source.faults console.old)) }
+    // Counts never fall.
+    ensures files_later { F.faults files.old ≤ F.faults files.new }
+    ensures in_later { L.Source.faults console.old ≤ L.Source.faults console.new }
+    ensures out_later { L.Sink.faults console.old ≤ L.Sink.faults console.new }
+    ensures err_later { O.faults err.old ≤ O.faults err.new }
+{
+    let end = run(rt, alloc, words, files, console);
+    conclude(err, &end)
+}

@@ -1,0 +1,85 @@
+// What `session` does.
+ghost use Rattle.std.specs.Prelude.{◌≡◌, ◌≢◌, ◌≤◌, ◌⊎◌};
+ghost use Rattle.cluster_json.specs.Ranges.{IsFile};
+ghost use Rattle.cluster_json.specs.Views.{file_seen};
+ghost use Rattle.control_core.specs.Books.{opened};
+ghost use Rattle.quiet_commands.specs.Edges.{IsSilent, io_told};
+ghost use Rattle.quiet_commands.specs.Sessions.{DidSession, drained_end, ended_by};
+ghost use Rattle.quiet_commands.specs.declared.ends.End.{End};
+
+use crate::ends::End;
+use cc_base::Link;
+use cluster_gate::{MemoryCluster, MemoryCopier};
+use cluster_json::ClusterFile;
+use control_core::Book;
+use mover_rounds::DrainEnd;
+use rest_session::{LinkEnd, SessionEnd, run_session};
+use std::alloc::Global;
+use std::thread::Threads;
+
+/// How a run ends whose link ended well.
+pub fn drained_end(drain: DrainEnd) -> End
+    ensures { result ≡ drained_end drain }
+{
+    match drain {
+        DrainEnd::Drained => End::Done,
+        DrainEnd::AdminFault(_) => End::NotDrained,
+        DrainEnd::Memory => End::Memory,
+    }
+}
+
+/// How a run ends whose session ended so.
+pub fn ended_by(ended: SessionEnd) -> End
+    ensures { result ≡ ended_by ended.link ended.drain }
+{
+    match ended.link {
+        LinkEnd::Ended | LinkEnd::Closed => drained_end(ended.drain),
+        LinkEnd::Cut | LinkEnd::Unframed => End::InputCut,
+        LinkEnd::ReadFault => End::ReadFault,
+        LinkEnd::WriteFault => End::WriteFault,
+        LinkEnd::Memory => End::Memory,
+    }
+}
+
+// Serves a book that was just opened.
+fn serve<L: Link, R: Threads + Sync>(
+    rt: &R,
+    alloc: Global,
+    book: &mut Book<MemoryCluster>,
+    console: &mut L,
+) -> End
+    requires { book.old ≡ opened book.old.file book.old.admin }
+    ensures did { DidSession book.old.file
+        (io_told L.Source L.Sink console.old console.new) result }
+    ensures drained { result ≢ End.NotDrained }
+    ensures source { L.Source.faults console.old ≤ L.Source.faults console.new }
+    ensures sink { L.Sink.faults console.old ≤ L.Sink.faults console.new }
+{
+    let mut copier = MemoryCopier::new(alloc);
+    let ended = run_session(rt, alloc, book, &mut copier, console);
+    let _legal = book.journal();
+    let _few = book.failures();
+    ended_by(ended)
+}
+
+/// Answers the requests of the input over a book of the file's cluster in memory, asks Close, and
+/// makes rounds until nothing is unfinished. The replies go to the output one after another.
+pub fn session<L: Link, R: Threads + Sync>(
+    rt: &R,
+    alloc: Global,
+    file: ClusterFile,
+    console: &mut L,
+) -> End
+    requires { IsFile file }
+    ensures did { ((result ≡ End.Memory)
+        × IsSilent (io_told L.Source L.Sink console.old console.new))
+        ⊎ DidSession (file_seen file) (io_told L.Source L.Sink console.old console.new) result }
+    ensures drained { result ≢ End.NotDrained }
+    ensures source { L.Source.faults console.old ≤ L.Source.faults console.new }
+    ensures sink { L.Sink.faults console.old ≤ L.Sink.faults console.new }
+{
+    match Book::begin(alloc, file, MemoryCluster::new(alloc)) {
+        Ok(mut book) => serve(rt, alloc, &mut book, console),
+        Err(_) => End::Memory,
+    }
+}

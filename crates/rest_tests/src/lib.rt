@@ -1,5 +1,0 @@
-//! Tests of the replies over HTTP.
-#![tactic(auto)]
-
-#[cfg(test)]
-mod replies;
