@@ -34,6 +34,11 @@ class Change:
         return [id for id in self.before if id not in self.after]
 
     @property
+    def moved(self):
+        """How many replicas take the place of one that is removed; others make the list longer."""
+        return min(len(self.added), len(self.removed))
+
+    @property
     def has_new_leader(self):
         return self.before[0] != self.after[0]
 
@@ -89,12 +94,21 @@ def plural(count, word):
     return f"{count:,} {word}" + ("" if count == 1 else "s")
 
 
+def told(count, word, one, many):
+    return f"{plural(count, word)} {one if count == 1 else many}"
+
+
 def summary(cluster, rows):
-    """One line that says how much a plan changes."""
-    moved = sum(len(it.added) for it in rows)
-    led = sum(it.has_new_leader for it in rows)
+    """One line that says how much a plan changes. Replicas that move are those that take another's place."""
+    moved = sum(it.moved for it in rows)
+    added = sum(len(it.added) for it in rows) - moved
+    removed = sum(len(it.removed) for it in rows) - moved
     copied = sum(it.megabytes for it in rows)
-    return (
-        f"{len(rows):,} of {plural(len(cluster.partitions), 'partition')} change: {plural(moved, 'replica')} "
-        f"{'moves' if moved == 1 else 'move'} ({copied:,} MB), {plural(led, 'leader')} {'changes' if led == 1 else 'change'}"
-    )
+    said = [told(moved, "replica", "moves", "move")]
+    if added:
+        said.append(told(added, "replica", "is added", "are added"))
+    said[-1] += f" ({copied:,} MB)"
+    if removed:
+        said.append(told(removed, "replica", "is removed", "are removed"))
+    said.append(told(sum(it.has_new_leader for it in rows), "leader", "changes", "change"))
+    return f"{len(rows):,} of {plural(len(cluster.partitions), 'partition')} change: {', '.join(said)}"

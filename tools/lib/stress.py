@@ -11,6 +11,11 @@ from clusters import Fault
 
 CLUSTER = pathlib.Path(__file__).resolve().parents[2] / "examples" / "two-brokers.json"
 REMOVAL = b"POST /kafkacruisecontrol/remove_broker?brokerid=0&dryrun=false HTTP/1.1\r\n\r\n"
+# The broker is lost, and removed at once.
+FIX = b"POST /cluster/kill?broker=0 HTTP/1.1\r\n\r\nPOST /cluster/detect?now=0&alert_ms=0&heal_ms=0 HTTP/1.1\r\n\r\n"
+GROWTH = b"POST /kafkacruisecontrol/topic_configuration?topic=t&replication_factor=2&dryrun=false HTTP/1.1\r\n\r\n"
+# What a run is asked. One user task is accepted each time, whose work the threads have to find.
+REQUESTS = {"a removal": REMOVAL, "a fix": FIX, "a growth": GROWTH}
 ACCEPTED = b"HTTP/1.1 202 Accepted\r\n"
 # How many run at a time.
 AT_ONCE = 4
@@ -34,34 +39,36 @@ class Crew:
 CREWS = [Crew(movers, planners) for movers in range(1, 9) for planners in range(3)]
 
 
-def session(program, crew, seconds):
-    """A session that is asked once to remove a broker. What was wrong with it, or nothing."""
+def session(program, crew, seconds, asked="a removal"):
+    """A session that is asked one thing. What was wrong with it, or nothing."""
     command = [program, "session", str(CLUSTER), *crew.words()]
+    it = f"a session with {crew} and {asked}"
     try:
-        ran = subprocess.run(command, input=REMOVAL, capture_output=True, timeout=seconds)
+        ran = subprocess.run(command, input=REQUESTS[asked], capture_output=True, timeout=seconds)
     except subprocess.TimeoutExpired:
-        return f"a session with {crew} didn't end in {seconds} seconds"
+        return f"{it} didn't end in {seconds} seconds"
     if ran.returncode or ran.stderr or ran.stdout.count(ACCEPTED) != 1:
-        return f"a session with {crew} ended with status {ran.returncode}: {(ran.stderr or ran.stdout).decode(errors='replace')}"
+        return f"{it} ended with status {ran.returncode}: {(ran.stderr or ran.stdout).decode(errors='replace')}"
     return None
 
 
-def service(program, crew, links, seconds):
-    """A service whose links are closed at once, the first behind one request. What was wrong with it, or nothing."""
+def service(program, crew, links, seconds, asked="a removal"):
+    """A service whose links are closed at once, the first behind what it is asked. What was wrong with it, or nothing."""
     port = serving.free_port()
+    it = f"a service of {links} links with {crew} and {asked}"
     command = [program, "serve", str(CLUSTER), "--listen", f"{serving.HOST}:{port}", "--links", str(links), *crew.words()]
     with subprocess.Popen(command, stdin=subprocess.DEVNULL, stdout=subprocess.DEVNULL, stderr=subprocess.PIPE) as process:
         try:
             for number in range(links):
                 link = serving.connect(process, port, seconds)
                 if not number:
-                    link.send(REMOVAL)
+                    link.send(REQUESTS[asked])
                 link.close()
             _, line = process.communicate(timeout=seconds)
         except (subprocess.TimeoutExpired, Fault) as fault:
             process.kill()
-            return f"a service of {links} links with {crew}: {fault}"
-    return f"a service of {links} links with {crew} ended with status {process.returncode}: {line.decode()}" if process.returncode else None
+            return f"{it}: {fault}"
+    return f"{it} ended with status {process.returncode}: {line.decode()}" if process.returncode else None
 
 
 def all_of(calls):
@@ -71,11 +78,11 @@ def all_of(calls):
 
 
 def sessions(program, number, seconds):
-    crews = itertools.islice(itertools.cycle(CREWS), number)
-    return all_of([lambda crew=crew: session(program, crew, seconds) for crew in crews])
+    made = itertools.islice(itertools.cycle(itertools.product(CREWS, REQUESTS)), number)
+    return all_of([lambda crew=crew, asked=asked: session(program, crew, seconds, asked) for crew, asked in made])
 
 
 def services(program, number, seconds, seed=1):
     chance = random.Random(seed)
-    made = [(chance.choice(CREWS), chance.randint(1, 4)) for _ in range(number)]
-    return all_of([lambda crew=crew, links=links: service(program, crew, links, seconds) for crew, links in made])
+    made = [(chance.choice(CREWS), chance.randint(1, 4), seconds, chance.choice([*REQUESTS])) for _ in range(number)]
+    return all_of([lambda words=words: service(program, *words) for words in made])

@@ -452,7 +452,7 @@ class Script(unittest.TestCase):
 
     def test_words_are_refused_only_where_the_program_refuses_them(self):
         """Each command line of the tests and of the rows: one that means a command goes to the program."""
-        text = (ROOT / "crates/core_tests/src/commands.rt").read_text()
+        text = (ROOT / "crates/request_tests/src/commands.rt").read_text()
         text = text[text.index("const LINES") : text.index("];", text.index("const LINES"))]
         lines = re.findall(r'\(\s*"((?:[^"])*)",\s*"([^"]*)",?\s*\)', text) + [(line, "Usage") for line in REFUSED]
         self.assertGreater(len(lines), 80)

@@ -12,9 +12,10 @@ import time
 import unittest
 
 ROOT = pathlib.Path(__file__).resolve().parents[2]
-sys.path.insert(0, str(ROOT / "tools/lib"))
+sys.path[:0] = [str(ROOT / "tools/lib"), str(ROOT / "tools")]
 import serving
 from commands import EXAMPLES
+from rows import sessions
 
 PROGRAM = ROOT / "crates/sumpharu/out/sumpharu"
 # No wait of a test is longer.
@@ -28,18 +29,15 @@ CLUSTER = "/kafkacruisecontrol/kafka_cluster_state"
 TASKS = "/kafkacruisecontrol/user_tasks"
 REMOVE = "/kafkacruisecontrol/remove_broker?brokerid=0&dryrun=false"
 STOP = "/kafkacruisecontrol/stop_proposal_execution?force_stop=true"
-FIRST_TASK = "00000000-0000-8000-8000-000000000001"
+FIRST_TASK = sessions.FIRST_TASK
 
 
 def reply_bytes(status, body, task=None):
-    """A reply as docs/FORMATS.md has it."""
-    field = f"User-Task-ID: {task}\r\n" if task else ""
-    return f"HTTP/1.1 {status}\r\nContent-Type: application/json\r\nContent-Length: {len(body)}\r\n{field}\r\n{body}".encode()
+    return sessions.reply(status, body, task).encode()
 
 
 def request_bytes(line, task=None):
-    field = f"User-Task-ID: {task}\r\n" if task else ""
-    return f"{line} HTTP/1.1\r\n{field}\r\n".encode()
+    return sessions.asked(line, task).encode()
 
 
 ACCEPTED = reply_bytes("202 Accepted", f'{{"status":"Active","userTaskId":"{FIRST_TASK}","version":1}}', FIRST_TASK)
@@ -137,6 +135,16 @@ class Serve(unittest.TestCase):
         link.send(KEYS)
         link.stream.shutdown(socket.SHUT_WR)
         self.assertEqual(link.rest(), KEYS_ANSWERED)
+        self.assert_ends()
+
+    def test_what_is_done_about_a_broker_that_is_lost(self):
+        """A session's replies, over a link."""
+        _, requests, _, replies, _ = sessions.LOSS
+        self.start()
+        link = self.link()
+        link.send(requests.encode())
+        link.stream.shutdown(socket.SHUT_WR)
+        self.assertEqual(link.rest(), replies.encode())
         self.assert_ends()
 
     def test_a_request_that_comes_byte_by_byte(self):

@@ -35,13 +35,13 @@ class Fakes(unittest.TestCase):
         return stress.session(program, stress.Crew(2, 1), 2)
 
     def test_a_session_that_sleeps_is_seen(self):
-        self.assertEqual(self.session_of("exec sleep 60"), "a session with 2 movers, 1 planners didn't end in 2 seconds")
+        self.assertEqual(self.session_of("exec sleep 60"), "a session with 2 movers, 1 planners and a removal didn't end in 2 seconds")
 
     def test_a_reply_that_is_missing_is_seen(self):
-        self.assertEqual(self.session_of("exit 0"), "a session with 2 movers, 1 planners ended with status 0: ")
+        self.assertEqual(self.session_of("exit 0"), "a session with 2 movers, 1 planners and a removal ended with status 0: ")
 
     def test_a_status_is_seen(self):
-        self.assertEqual(self.session_of("echo gone >&2; exit 7"), "a session with 2 movers, 1 planners ended with status 7: gone\n")
+        self.assertEqual(self.session_of("echo gone >&2; exit 7"), "a session with 2 movers, 1 planners and a removal ended with status 7: gone\n")
 
     def test_a_session_as_it_should_be(self):
         self.assertIsNone(self.session_of("printf 'HTTP/1.1 202 Accepted\\r\\n\\r\\n'"))

@@ -183,6 +183,53 @@ class Tools(unittest.TestCase):
         out = self.tool("show-plan", self.file("c", value), self.file("p", plan))[1]
         self.assertTrue(out.startswith("1 of 1 partition change: 2 replicas move (1,900 MB), 1 leader changes\n"), out)
 
+    def longer_and_shorter(self):
+        """The files of a cluster, of a plan that grows topic t, moves one of its replicas and cuts topic u, and the value of the cluster."""
+        loads = {"leader": {"DISK": 1000}, "follower": {"DISK": 900}}
+        lists = {"t": [[1, 2], [2, 1]], "u": [[1, 2, 3]], "v": [[4, 1]]}
+        parts = [{"topic": topic, "partition": at, "replicas": it, "load": loads} for topic, all in lists.items() for at, it in enumerate(all)]
+        value = {"version": 1, "brokers": [{"id": id} for id in (1, 2, 3, 4)], "partitions": parts}
+        after = [("t", 0, [1, 2, 3, 4]), ("t", 1, [3, 1, 4]), ("u", 0, [3])]
+        plan = {"partitions": [{"topic": topic, "partition": at, "replicas": members} for topic, at, members in after]}
+        return self.file("cluster", value), self.file("plan", plan), value
+
+    def test_shows_lists_that_get_longer_and_shorter(self):
+        cluster, plan, value = self.longer_and_shorter()
+        code, out, err = self.tool("show-plan", cluster, plan)
+        self.assertEqual((code, err), (0, ""))
+        first, _, *lines = out.splitlines()
+        summary = "3 of 4 partitions change: 1 replica moves, 3 replicas are added (3,700 MB), 2 replicas are removed, 2 leaders change"
+        self.assertEqual(first, summary)
+        cells = [line.split() for line in lines]
+        for row in (
+            ["t-0", "1,2", "1,2,3,4", "-", "3,4", "1800", "stays"],
+            ["t-1", "2,1", "3,1,4", "2", "3,4", "1900", "2", "->", "3"],
+            ["u-0", "1,2,3", "3", "1,2", "-", "0", "1", "->", "3"],
+            ["1", "-", "ALIVE", *"4 -> 3 2 -> 1 0 0 0 3800 -> 2800".split()],
+            ["3", "-", "ALIVE", *"1 -> 3 0 -> 2 0 0 0 900 -> 2900".split()],
+            # Of nine replicas, and then of ten, two or three are to be on each broker.
+            ["ReplicaDistributionGoal", "soft", "3", "1", "better"],
+        ):
+            self.assertIn(row, cells)
+        self.assertNotIn("v-0", out)
+        page = self.tool("show-plan", cluster, plan, "--html")[1]
+        for part in (f"<p>{summary}.</p>", "<td>1, 2, <ins>3</ins>, <ins>4</ins></td>", "<td><del>1</del>, <del>2</del>, 3</td><td>3</td>"):
+            self.assertIn(part, page)
+
+    def test_takes_back_lists_that_get_longer_and_shorter(self):
+        cluster, plan, value = self.longer_and_shorter()
+        code, back, err = self.tool("show-plan", cluster, plan, "--rollback")
+        self.assertEqual((code, err), (0, ""))
+        old = [{"topic": it["topic"], "partition": it["partition"], "replicas": it["replicas"]} for it in value["partitions"][:3]]
+        self.assertEqual(json.loads(back)["partitions"], old)
+        for it, new in zip(value["partitions"], json.loads(pathlib.Path(plan).read_text())["partitions"]):
+            it["replicas"] = new["replicas"]
+        out = self.tool("show-plan", self.file("after", value), self.file("back", back))[1]
+        summary = "3 of 4 partitions change: 1 replica moves, 2 replicas are added (2,900 MB), 3 replicas are removed, 2 leaders change"
+        self.assertEqual(out.splitlines()[0], summary)
+        forth = json.loads(self.tool("show-plan", self.file("after", value), self.file("back", back), "--rollback")[1])
+        self.assertEqual(forth["partitions"], json.loads(pathlib.Path(plan).read_text())["partitions"])
+
     def test_takes_a_plan_back(self):
         zones = ROOT / "examples/three-zones.json"
         plan = self.file("plan", PLAN)

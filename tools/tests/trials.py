@@ -88,14 +88,17 @@ class Clock:
 
 
 def random_lists(rng, before):
-    """A plan: for most partitions another list, of which some are the same members in another order."""
+    """A plan: for most partitions another list, of which some are the same members in another order, and some are shorter or longer by one."""
     plan = {}
     for key, members in before.items():
         after = rng.sample(range(BROKERS), len(members))
         if rng.random() < 0.25:
             after = rng.sample(members, len(members))
-        if rng.random() < 0.1:
+        chance = rng.random()
+        if chance < 0.1:
             after = after[: len(after) - 1]
+        elif chance < 0.2:
+            after = [*members, rng.choice([id for id in range(BROKERS) if id not in members])]
         if after != members:
             plan[key] = after
     return plan

@@ -1,3 +1,4 @@
+pub mod Resizes
 pub mod Counted
 pub mod Firsts
 pub mod Goals

@@ -38,13 +38,14 @@ shown file None = tt
 shown file (Some lists) = sym (opening_lists file.cluster file.lists file.caps)
 
 pub opened_book : (before told : Option Lists) (parts faults : ℕ) (m : Machine) (room : ℕ) → IsInput m.file → AreWindows m → m.desk ≡ opening_desk m.file
-    → StandsFor m.windows (accepted m.file.rules m.file.samples) → told ≡ installed before m.file.lists → parts ≡ length m.file.lists → 1 ≤ room → IsBook told parts faults m [] room 0 0
-opened_book before told parts faults m room input windows desk stands tells same some = record {
+    → StandsFor m.windows (accepted m.file.rules m.file.samples) → m.since.items ≡ [] → told ≡ installed before m.file.lists → parts ≡ length m.file.lists → 1 ≤ room → IsBook told parts faults m [] room 0 0
+opened_book before told parts faults m room input windows desk stands since tells same some = record {
   input = input;
   windows = windows;
   legal = tt;
   desk_is = desk ∙ ap (λ (s : Core). s.desk) (sym (opening_state m.file));
   stands = rw (opening_state m.file) stands;
+  since_is = since ∙ ap (λ (s : Core). s.since) (sym (opening_state m.file));
   short = omega arith;
   room_is = rw (desk, kept_once m.file) (omega (arith, some));
   lists = record { told_are = rw (tells, opening_state m.file) (shown m.file before); parts_are = same ∙ input.belongs.one_each };

@@ -66,20 +66,7 @@ told_none : (s : State) (e : Event) → told_after s e None ≡ None
 told_none s event.Take = begun_none s (next_work s)
 told_none s (event.Commit lease) = written_none (λ t. t.after) s (test_lease s lease ForCommit)
 told_none s (event.Cancel lease) = written_none (λ t. t.before) s (test_lease s lease ForCancel)
-told_none s (event.Submit ask key) = refl
-told_none s event.PlanTake = refl
-told_none s (event.Planned ticket plan) = refl
-told_none s (event.Refused ticket failure) = refl
-told_none s (event.PlanBack ticket) = refl
-told_none s (event.Stop force) = refl
-told_none s (event.Kill broker) = refl
-told_none s (event.Sample topic number time loads) = refl
-told_none s (event.Caps asked) = refl
-told_none s (event.Show query) = refl
-told_none s (event.Copied receipt) = refl
-told_none s (event.CopyFailed lease) = refl
-told_none s (event.GiveBack lease) = refl
-told_none s event.Close = refl
+told_none s _ = refl
 
 told_follows : (file : Meaning) (s : Core) (e : Event) → IsInput file → IsLegal e → IsSound file s.desk → (told : Option Lists) → IfSome told (λ lists. lists ≡ lists_now s.desk.exec)
     → IfSome (told_after s.desk.exec e told) (λ lists. lists ≡ lists_now (next file s e).desk.exec)
@@ -92,7 +79,9 @@ module _ (told : Option Lists) (parts faults : ℕ) (m : Machine) (journal : Lis
 
   -- the state of the machine is the journal's
   pub is_now : core_of m now.samples ≡ now
-  is_now = ap (λ (d : Desk). let s : Core = record { desk = d; samples = now.samples } in s) inv.desk_is
+  is_now =
+      ap (λ (d : Desk). let s : Core = record { desk = d; samples = now.samples; since = m.since.items } in s) inv.desk_is
+      ∙ ap (λ (l : List (ℕ × ℕ)). let s : Core = record { desk = now.desk; samples = now.samples; since = l } in s) inv.since_is
 
   pub sound : IsSound m.file now.desk
   sound = histories_are_sound m.file journal inv.input inv.legal
@@ -125,10 +114,11 @@ module _ (told : Option Lists) (parts faults : ℕ) (m : Machine) (journal : Lis
       → IsLegal e → m'.file ≡ m.file → AreWindows m'
       → ((samples : List Sample) → StandsFor m.windows samples → m'.desk ≡ (next m.file (core_of m samples) e).desk)
       → ((samples : List Sample) → StandsFor m.windows samples → StandsFor m'.windows (next m.file (core_of m samples) e).samples)
+      → ((samples : List Sample) → StandsFor m.windows samples → m'.since.items ≡ (next m.file (core_of m samples) e).since)
       → told' ≡ told_after m.desk.exec e told → parts' ≡ parts → faults ≤ faults'
       → length journal + cond (is_sure m.desk e) (kept_for m.desk) (kept_for m.desk + 2) ≤ room' → length (journal ++ e ∷ []) < 2 ^ 63
       → IsBook told' parts' faults' m' (journal ++ e ∷ []) room' failures late
-  stepped m' e room' parts' faults' told' legal file windows desk stands tells same later room_for short =
+  stepped m' e room' parts' faults' told' legal file windows desk stands since tells same later room_for short =
       let after : state_after m'.file (journal ++ e ∷ []) ≡ next m.file now e = rw file (one_more_state m.file journal e) in
       let new_desk : m'.desk ≡ (next m.file now e).desk = desk now.samples inv.stands ∙ ap (λ (s : Core). (next m.file s e).desk) is_now in
       let kept = room_is_kept m.file now e inv.input legal sound in
@@ -139,6 +129,7 @@ module _ (told : Option Lists) (parts faults : ℕ) (m : Machine) (journal : Lis
         legal = legal_more journal e inv.legal legal;
         desk_is = new_desk ∙ ap (λ (s : Core). s.desk) (sym after);
         stands = rw after (rw is_now at (stands now.samples inv.stands));
+        since_is = since now.samples inv.stands ∙ ap (λ (s : Core). (next m.file s e).since) is_now ∙ ap (λ (s : Core). s.since) (sym after);
         short = short;
         room_is = rw (new_desk, length-append journal (e ∷ [])) (omega (arith, kept, room_now));
         lists = record {

@@ -46,6 +46,7 @@ pub record IsBook (told : Option Lists) (parts faults : ℕ) (m : Machine) (jour
   pub legal : AreLegal journal
   pub desk_is : m.desk ≡ (state_after m.file journal).desk
   pub stands : StandsFor m.windows (state_after m.file journal).samples
+  pub since_is : m.since.items ≡ (state_after m.file journal).since
   pub short : length journal < 2 ^ 63
   pub room_is : length journal + kept_for m.desk ≤ room
   pub lists : AreAdminLists told parts m.file (state_after m.file journal)

@@ -11,7 +11,7 @@ use Rattle.control_core.specs.declared.machine.Machine.{Machine}
 
 -- the state of the machine, where its windows stand for these samples
 abbrev pub core_of : Machine → List Sample → Core
-core_of m samples = record { desk = m.desk; samples = samples }
+core_of m samples = record { desk = m.desk; samples = samples; since = m.since.items }
 
 -- the windows are those of the file
 pub record AreWindows (m : Machine) : Type 0 where
@@ -38,4 +38,6 @@ wants_memory event.PlanTake = true
 wants_memory (event.Planned ticket plan) = true
 wants_memory (event.Refused ticket failure) = true
 wants_memory (event.Show query) = true
+wants_memory (event.Look now) = true
+wants_memory (event.Heal cause ask) = true
 wants_memory _ = false

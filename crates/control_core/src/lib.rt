@@ -3,9 +3,11 @@
 #![tactic(auto)]
 
 mod book;
+mod changes;
 mod desk;
 mod journal;
 mod journaled;
+mod looks;
 mod machine;
 mod movers;
 mod places;

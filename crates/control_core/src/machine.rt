@@ -1,9 +1,11 @@
 // The core without its journal and its admin.
-ghost use Rattle.std.specs.Prelude.{◌≡◌, ◌≤◌, List, IfOk, OnOk, OnErr, length};
+ghost use Rattle.std.specs.Prelude.{◌≡◌, ◌≤◌, List, [], IfOk, OnOk, OnErr, length};
 ghost use Rattle.metric_windows.specs.StandsFor.{StandsFor};
 ghost use Rattle.plan_terms.specs.declared.settings.Sample.{Sample};
 ghost use Rattle.cluster_json.specs.Ranges.{IsFile};
 ghost use Rattle.cluster_json.specs.Views.{file_seen};
+ghost use Rattle.plan_terms.specs.Belongs.{Belongs};
+ghost use Rattle.exec_terms.specs.Settled.{settled_lists};
 ghost use Rattle.core_terms.specs.Input.{IsInput, accepted};
 ghost use Rattle.core_terms.specs.State.{moment_of, opening_desk, present};
 ghost use Rattle.core_terms.specs.Submits.{after_submit, lacks_windows, or_accepted, refusal_of, reply_submit, unless_refused};
@@ -12,8 +14,10 @@ ghost use Rattle.control_core.specs.Machines.{AreWindows, IsReady, core_of};
 
 use crate::desk::Desk;
 use cluster_json::ClusterFile;
-use core_cases::{OpenFile, first_unknown, goals_of, present, valid_parts, windows_of};
-use core_laws::{every_book, every_event};
+use core_cases::{
+    OpenFile, changes_factor, first_unknown, goals_of, present, valid_parts, windows_of,
+};
+use core_laws::{every_book, every_event, every_history};
 use core_terms::Reply;
 use executor_core::opened;
 use goal_set::{Failure, GoalFault, Plan};
@@ -22,14 +26,16 @@ use metric_windows::Windows;
 use plan_terms::Memory;
 use proposal_set::proposals;
 use std::alloc::Global;
-use user_tasks::{Ask, task_id};
+use user_tasks::Ask;
 use uuid::Uuid;
 
-/// The file, the windows of the samples, and all else of the state.
+/// The file, the windows of the samples, the brokers that were found lost, each with the moment of
+/// that, and all else of the state.
 #[derive(Drop)]
 pub struct Machine {
     pub(crate) file: OpenFile,
     pub(crate) windows: Windows,
+    pub(crate) since: Vec<(u32, u64)>,
     pub(crate) desk: Desk,
 }
 
@@ -51,6 +57,7 @@ impl Machine {
         ensures file { IfOk result (λ m. m.file ≡ file_seen file) }
         ensures input { IfOk result (λ m. IsInput m.file) }
         ensures desk { IfOk result (λ m. m.desk ≡ opening_desk m.file) }
+        ensures since { IfOk result (λ m. m.since.items ≡ []) }
         ensures windows { IfOk result AreWindows }
         ensures stands { IfOk result
             (λ m. StandsFor m.windows (accepted m.file.rules m.file.samples)) }
@@ -62,21 +69,24 @@ impl Machine {
         Ok(Machine {
             file,
             windows,
+            since: Vec::new(alloc),
             desk,
         })
     }
 
     /// The present cluster.
     pub fn present(&self, alloc: Global) -> Result<Case, Memory>
-        requires { AreWindows self.now }
+        requires { IsReady self.now }
         ensures value { (samples : List Sample) → StandsFor self.now.windows samples
             → IfOk result (λ c. c ≡ present self.now.file self.now.desk.exec.hosts samples) }
         ensures one_each { IfOk result (λ c. length c.parts ≡ length self.now.file.cluster.parts) }
+        ensures belongs { IfOk result (λ c. Belongs c (settled_lists self.now.desk.exec)) }
     {
+        every_history();
         present(alloc, &self.file, &self.windows, &self.desk.exec)
     }
 
-    // A request that is a new user task, or is refused.
+    // A request for a plan that is a new user task, or is refused.
     #[tactic(auto, unfolding(core_terms::specs::Submits::refusal_of))]
     fn submit_new(&mut self, alloc: Global, ask: &Ask) -> Result<Reply, Memory>
         requires { AreWindows self.old }
@@ -95,6 +105,7 @@ impl Machine {
             (moment_of self.old.file (core_of self.old samples)) self.old.desk
             ask.now)) }
         ensures windows { self.new.windows ≡ self.old.windows }
+        ensures since { self.new.since ≡ self.old.since }
         ensures file { self.new.file ≡ self.old.file }
         ensures err { OnErr result (self.new ≡ self.old) }
     {
@@ -109,17 +120,15 @@ impl Machine {
             Err(GoalFault::Memory) => return Err(Memory),
             Err(fault) => return Ok(Reply::BadGoals(fault)),
         };
-        if let Some(place) = self.desk.first_executing(ask) {
-            return Ok(Reply::Executing(task_id(place as u64 + 1)));
-        }
-        if self.desk.open_count() >= 16 {
-            return Ok(Reply::TooManyActive);
+        if let Some(refusal) = self.desk.open_refusal(ask) {
+            return Ok(refusal);
         }
         let valid = valid_parts(&self.file, &self.windows);
         if lacks_windows(&self.file, valid) {
             return Ok(Reply::NotEnoughWindows(valid, self.file.case().parts().len() as u32));
         }
-        self.desk.admit(alloc, ask, goals)
+        let id = self.desk.admit(alloc, ask, goals)?;
+        Ok(Reply::Accepted(id))
     }
 
     /// A request for a plan, perhaps with the id of an earlier one.
@@ -138,11 +147,13 @@ impl Machine {
             (moment_of self.old.file (core_of self.old samples)) self.old.desk ask.now
             key) }
         ensures windows { self.new.windows ≡ self.old.windows }
+        ensures since { self.new.since ≡ self.old.since }
         ensures file { self.new.file ≡ self.old.file }
         ensures err { OnErr result (self.new ≡ self.old) }
     {
         match key {
             Some(id) => self.desk.find(alloc, self.file.case().parts(), id, ask),
+            None if changes_factor(ask) => self.change(alloc, ask),
             None => self.submit_new(alloc, ask),
         }
     }
@@ -158,6 +169,7 @@ impl Machine {
         ensures desk { OnOk result
             (self.new.desk ≡ ticketed self.old.desk (first_waiting self.old.desk)) }
         ensures windows { self.new.windows ≡ self.old.windows }
+        ensures since { self.new.since ≡ self.old.since }
         ensures file { self.new.file ≡ self.old.file }
         ensures err { OnErr result (self.new ≡ self.old) }
     {
@@ -187,6 +199,7 @@ impl Machine {
             ≡ planned (moment_of self.old.file (core_of self.old samples)) self.old.desk
             plan.now (holder_of ticket self.old.desk.jobs)) }
         ensures windows { self.new.windows ≡ self.old.windows }
+        ensures since { self.new.since ≡ self.old.since }
         ensures file { self.new.file ≡ self.old.file }
         ensures err { OnErr result (self.new ≡ self.old) }
     {
@@ -226,6 +239,7 @@ impl Machine {
             ≡ refused (moment_of self.old.file (core_of self.old samples)) self.old.desk
             failure.now (holder_of ticket self.old.desk.jobs)) }
         ensures windows { self.new.windows ≡ self.old.windows }
+        ensures since { self.new.since ≡ self.old.since }
         ensures file { self.new.file ≡ self.old.file }
         ensures err { OnErr result (self.new ≡ self.old) }
     {

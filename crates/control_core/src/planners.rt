@@ -5,6 +5,7 @@ ghost use Rattle.exec_terms.specs.Settled.{settled_lists};
 ghost use Rattle.core_terms.specs.Jobs.{is_done_at_once, user_task_at, with_plan, MayLaunch};
 ghost use Rattle.core_terms.specs.Sound.{AreTickets};
 ghost use Rattle.user_tasks.specs.Tasks.{is_open};
+ghost use Rattle.user_tasks.specs.declared.table.UserTask.{UserTask};
 ghost use Rattle.core_terms.specs.Plans.{first_waiting, goal_failed, holder_of, is_failure_for, is_plan_for, planned_back, problem_at, reply_plan_back, ticketed, unticketed, with_failure};
 
 use crate::desk::Desk;
@@ -15,15 +16,15 @@ use goal_set::{Failure, Plan};
 use load_model::{Assign, Case};
 use plan_terms::{ListOf, Memory, Proposal};
 use std::alloc::Global;
-use user_tasks::{Status, UserTask};
+use user_tasks::{Ask, Status};
 
-// Whether a plan with these changes is done as it stands.
-fn is_done_at_once(task: &UserTask, changes: &[Proposal]) -> bool
-    ensures { result ≡ is_done_at_once task.now changes.now }
+/// Whether the plan of a request is done as it stands, where it makes these changes.
+pub fn is_done_at_once(ask: &Ask, changes: &[Proposal]) -> bool
+    ensures { (t : UserTask) → t.ask ≡ ask.now → result ≡ is_done_at_once t changes.now }
 {
     match changes {
         [] => true,
-        [_, ..] => is_dry(&task.ask),
+        [_, ..] => is_dry(ask),
     }
 }
 
@@ -55,6 +56,15 @@ impl Desk {
         holder_among(&self.jobs, &self.open_tasks, ticket)
     }
 
+    /// The settled lists, which belong to this case.
+    pub fn settled(&self, alloc: Global, case: &Case) -> Result<Assign, Memory>
+        requires { Belongs case.now (settled_lists self.now.exec) }
+        ensures { IfOk result (λ l. l ≡ settled_lists self.now.exec) }
+    {
+        let _few = case.parts();
+        Ok(Assign::of(self.exec.settled_lists(alloc)?))
+    }
+
     /// What a planner is given for the job at a place, in the present cluster.
     #[tactic(auto, unfolding(core_terms::specs::Plans::problem_at))]
     pub fn problem(&self, alloc: Global, present: Case, place: usize) -> Result<Problem, Memory>
@@ -64,8 +74,7 @@ impl Desk {
         ensures { IfOk result (λ p. p ≡ problem_at present self.now place) }
     {
         let case = case_of(alloc, &self.tasks.tasks()[place].ask, present)?;
-        let _few = case.parts();
-        let start = Assign::of(self.exec.settled_lists(alloc)?);
+        let start = self.settled(alloc, &case)?;
         let goals = self.jobs[place].goals.copy(alloc)?;
         Ok(Problem::new(case, start, goals))
     }
@@ -166,7 +175,7 @@ impl Desk {
         ensures state { OnOk result (self.new ≡ with_plan self.old place changes.items) }
         ensures err { OnErr result (self.new ≡ self.old) }
     {
-        let done = is_done_at_once(&self.tasks.tasks()[place], &changes);
+        let done = is_done_at_once(&self.tasks.tasks()[place].ask, &changes);
         if !done && self.exec.launch(alloc, &changes).is_err() {
             return Err(Memory);
         }

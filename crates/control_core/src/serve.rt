@@ -25,6 +25,7 @@ impl Machine {
             (sampled self.old.file self.old.desk.closing samples topic.now number time
             measured.now) }
         ensures windows { AreWindows self.new }
+        ensures since { self.new.since ≡ self.old.since }
         ensures desk { self.new.desk ≡ self.old.desk }
         ensures file { self.new.file ≡ self.old.file }
     {
@@ -57,6 +58,10 @@ impl Machine {
             ((samples : List Sample) → StandsFor self.old.windows samples
             → StandsFor self.new.windows
             (next self.old.file (core_of self.old samples) event.now).samples) }
+        ensures since { OnOk result
+            ((samples : List Sample) → StandsFor self.old.windows samples
+            → self.new.since.items
+            ≡ (next self.old.file (core_of self.old samples) event.now).since) }
         // What always stays.
         ensures windows { AreWindows self.new }
         ensures file { self.new.file ≡ self.old.file }
@@ -70,6 +75,8 @@ impl Machine {
             Event::Planned(ticket, plan) => self.planned(alloc, *ticket, plan),
             Event::Refused(ticket, failure) => self.refused(alloc, *ticket, failure),
             Event::Show(query) => self.show(alloc, *query),
+            Event::Look(now) => self.look(alloc, *now),
+            Event::Heal(_, ask) => self.submit(alloc, ask, None),
             Event::PlanBack(ticket) => Ok(self.desk.plan_back(*ticket)),
             Event::Stop(force) => Ok(self.desk.stop(*force)),
             Event::Kill(broker) => Ok(self.desk.kill(*broker)),

@@ -5,7 +5,7 @@ ghost use Rattle.user_tasks.specs.Tasks.{open_count};
 ghost use Rattle.core_terms.specs.Asked.{goals_of};
 ghost use Rattle.core_terms.specs.Jobs.{admitted, executing, id_at};
 ghost use Rattle.core_terms.specs.Same.{same_ask};
-ghost use Rattle.core_terms.specs.Submits.{ended, first_executing, found_at, named, outcome_of, place_of};
+ghost use Rattle.core_terms.specs.Submits.{ended, first_executing, found_at, named, open_refusal, outcome_of, place_of};
 
 use crate::desk::Desk;
 use crate::places::{first_in_execution, first_planning};
@@ -14,7 +14,7 @@ use core_terms::{Job, Named, Outcome, Reply};
 use goal_set::GoalList;
 use plan_terms::{ListOf, Memory, Part, Proposal};
 use std::alloc::Global;
-use user_tasks::{Ask, Status, UserTask, ids_are_distinct, number_of};
+use user_tasks::{Ask, Status, UserTask, ids_are_distinct, number_of, task_id};
 use uuid::Uuid;
 
 // A proposal by the name of its partition.
@@ -31,8 +31,12 @@ fn named(alloc: Global, parts: &[Part], proposal: &Proposal) -> Result<Named, Me
     })
 }
 
-// Proposals by the names of their partitions.
-fn all_named(alloc: Global, parts: &[Part], proposals: &[Proposal]) -> Result<ListOf<Named>, Memory>
+/// Proposals by the names of their partitions.
+pub fn all_named(
+    alloc: Global,
+    parts: &[Part],
+    proposals: &[Proposal],
+) -> Result<ListOf<Named>, Memory>
     requires { All (λ p. p.part < length parts.now) proposals.now }
     ensures { IfOk result (λ l. l ≡ map (named parts.now) proposals.now) }
 {
@@ -167,27 +171,43 @@ impl Desk {
         }
     }
 
-    /// The user task that stands in the way of a request.
-    pub fn first_executing(&self, ask: &Ask) -> Option<usize>
+    // The user task that stands in the way of a request.
+    fn first_executing(&self, ask: &Ask) -> Option<usize>
         ensures { result ≡ first_executing self.now ask.now }
     {
         if is_dry(ask) { None } else { self.executing() }
     }
 
-    /// How many user tasks are open.
+    // How many user tasks are open.
     #[tactic(auto, using(crate::proofs::Open::open_counted))]
-    pub fn open_count(&self) -> usize
+    fn open_count(&self) -> usize
         ensures { result ≡ open_count self.now.tasks }
     {
         self.open_tasks.len()
     }
 
-    /// Makes the request a user task.
-    pub fn admit(&mut self, alloc: Global, ask: &Ask, goals: GoalList) -> Result<Reply, Memory>
+    /// Why a request can't be one more user task: one stands in its way, or as many are open as
+    /// there may be.
+    pub fn open_refusal(&self, ask: &Ask) -> Option<Reply>
+        ensures refusal { result ≡ open_refusal self.now ask.now }
+        ensures few { result ≡ None → open_count self.now.tasks < 16 }
+    {
+        let _few = self.tasks.tasks();
+        if let Some(place) = self.first_executing(ask) {
+            return Some(Reply::Executing(task_id(place as u64 + 1)));
+        }
+        if self.open_count() >= 16 {
+            return Some(Reply::TooManyActive);
+        }
+        None
+    }
+
+    /// Makes the request a user task, and answers its id.
+    pub fn admit(&mut self, alloc: Global, ask: &Ask, goals: GoalList) -> Result<Uuid, Memory>
         requires goals { goals ≡ goals_of ask.now }
         requires few { open_count self.old.tasks < 16 }
         ensures state { OnOk result (self.new ≡ admitted self.old ask.now) }
-        ensures reply { IfOk result (λ r. r ≡ Reply.Accepted (id_at (length self.old.tasks))) }
+        ensures id { IfOk result (λ id. id ≡ id_at (length self.old.tasks)) }
         ensures err { OnErr result (self.new ≡ self.old) }
     {
         let ask = ask.copy(alloc)?;
@@ -198,7 +218,7 @@ impl Desk {
             Ok(id) => {
                 add_job(&mut self.jobs, new_job(alloc, goals));
                 add_place(&mut self.open_tasks, place);
-                Ok(Reply::Accepted(id))
+                Ok(id)
             }
             Err(_) => Err(Memory),
         }

@@ -1,7 +1,6 @@
 -- Lists that belong to a cluster belong to it whatever its loads, its exclusions and the states of its brokers.
-use Rattle.std.proofs.Common.{◌≡◌, ◌∙◌, ℕ, Bool, true, false, cond, eqb, ◌&&◌, List, [], ◌∷◌, length, map, find, is_some, Option, Some, refl, sym, ap}
-use Rattle.std.specs.List.{All, list_all}
-use Rattle.std.proofs.lemmas.List.{length-map}
+use Rattle.std.proofs.Common.{◌≡◌, ◌∙◌, ℕ, Bool, true, false, cond, eqb, ◌&&◌, List, [], ◌∷◌, length, map, find, is_some, Some, refl, sym, ap}
+use Rattle.std.specs.List.{list_all}
 use Rattle.plan_terms.specs.Belongs.{Belongs}
 use Rattle.plan_terms.specs.Cluster.{Cluster, Lists, is_known}
 use Rattle.plan_terms.specs.declared.cluster.Broker.{Broker}

@@ -2,9 +2,9 @@
 ghost use Rattle.std.specs.Prelude.{◌≡◌, ◌≢◌, ◌<◌, not, None, Some, IfOk, IfErr, OnOk, map, length};
 ghost use Rattle.plan_terms.specs.Belongs.{Belongs};
 ghost use Rattle.plan_terms.specs.Cluster.{Lists, has, is_known};
-ghost use Rattle.core_terms.specs.Asked.{asks_demotion, is_dry, state_asked, state_for, broker_asked, is_excluded, part_asked, goals_of, goals_fault, case_of};
+ghost use Rattle.core_terms.specs.Asked.{asks_demotion, is_dry, takes_no_goals, state_asked, state_for, broker_asked, is_excluded, part_asked, goals_of, goals_fault, case_of};
 ghost use Rattle.core_terms.specs.Submits.{first_unknown};
-ghost use Rattle.user_tasks.specs.declared.ask.Ask.{Ask};
+ghost use Rattle.user_tasks.specs.Asks.{AskView, changes_factor};
 ghost use Rattle.core_cases.specs.Changes.{changed_at};
 ghost use Rattle.core_cases.specs.Excluded.{HasTopics};
 
@@ -23,11 +23,25 @@ pub fn is_dry(ask: &Ask) -> bool
     ask.dryrun || matches!(ask.op, Op::Proposals)
 }
 
+/// Whether another replication factor is asked for.
+pub fn changes_factor(ask: &Ask) -> bool
+    ensures { result ≡ changes_factor ask.now }
+{
+    matches!(ask.op, Op::TopicConfiguration)
+}
+
 // Whether brokers are asked no longer to lead.
 fn asks_demotion(ask: &Ask) -> bool
     ensures { result ≡ asks_demotion ask.now.op }
 {
     matches!(ask.op, Op::DemoteBroker)
+}
+
+// Whether a request takes no goals by name.
+fn takes_no_goals(op: Op) -> bool
+    ensures { result ≡ takes_no_goals op }
+{
+    matches!(op, Op::DemoteBroker | Op::TopicConfiguration)
 }
 
 /// The goals of a request, or what is wrong with their names.
@@ -36,7 +50,7 @@ pub fn goals_of(alloc: Global, ask: &Ask) -> Result<GoalList, GoalFault>
     ensures faultless { OnOk result (goals_fault ask.now ≡ None) }
     ensures fault { IfErr result (λ e. e ≢ GoalFault.Memory → goals_fault ask.now ≡ Some e) }
 {
-    if asks_demotion(ask) {
+    if takes_no_goals(ask.op) {
         return Ok(GoalList::demoting(alloc)?);
     }
     GoalList::read(alloc, ask.goals.as_slice(), ask.skip)
@@ -61,7 +75,7 @@ fn state_asked(op: Op, state: BrokerState) -> BrokerState
     ensures { result ≡ state_asked op state }
 {
     match op {
-        Op::Proposals | Op::Rebalance => state,
+        Op::Proposals | Op::Rebalance | Op::TopicConfiguration => state,
         Op::AddBroker => BrokerState::New,
         Op::RemoveBroker => BrokerState::Dead,
         Op::DemoteBroker => BrokerState::Demoted,
@@ -113,7 +127,7 @@ fn set_of(alloc: Global, topics: &[Topic]) -> Result<HashSet<String>, Memory>
 
 // Whether the partition is left out, where the topics of the set are.
 fn is_excluded(excluded: &HashSet<String>, part: &Part) -> bool
-    ensures { (ask : Ask) → HasTopics excluded.now ask.excluded
+    ensures { (ask : AskView) → HasTopics excluded.now ask.excluded
         → result ≡ is_excluded ask part.now }
 {
     excluded.contains(part.topic.as_str()) || part.excluded
@@ -122,7 +136,7 @@ fn is_excluded(excluded: &HashSet<String>, part: &Part) -> bool
 // The partition at a place is as the request sees it.
 fn ask_part(case: &mut Case, place: usize, excluded: &HashSet<String>)
     requires { place < length case.old.parts }
-    ensures one { (ask : Ask) → HasTopics excluded.now ask.excluded
+    ensures one { (ask : AskView) → HasTopics excluded.now ask.excluded
         → case.new ≡ record case.old { parts = changed_at (part_asked ask) case.old.parts place } }
     ensures long { length case.new.parts ≡ length case.old.parts }
 {
@@ -133,7 +147,7 @@ fn ask_part(case: &mut Case, place: usize, excluded: &HashSet<String>)
 
 // The partitions are as the request sees them.
 fn ask_parts(case: &mut Case, excluded: &HashSet<String>)
-    ensures { (ask : Ask) → HasTopics excluded.now ask.excluded
+    ensures { (ask : AskView) → HasTopics excluded.now ask.excluded
         → case.new ≡ record case.old { parts = map (part_asked ask) case.old.parts } }
 {
     let end = case.parts().len();

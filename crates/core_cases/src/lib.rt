@@ -7,14 +7,16 @@ mod carried;
 mod file;
 mod index;
 mod loads;
+mod losses;
 mod moments;
 mod same;
 mod samples;
 mod shows;
 
-pub use asked::{case_of, first_unknown, goals_of, is_dry};
+pub use asked::{case_of, changes_factor, first_unknown, goals_of, is_dry};
 pub use file::OpenFile;
 pub use loads::{loaded, loaded_case, valid_parts, windows_of};
+pub use losses::lost_since;
 pub use moments::present;
 pub use same::{failure_is_for, plan_is_for};
 pub use samples::sample;

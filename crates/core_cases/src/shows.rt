@@ -1,10 +1,10 @@
 // What is shown of the state.
-ghost use Rattle.std.specs.Prelude.{◌≡◌, ◌<◌, IfOk, IfSome, length};
+ghost use Rattle.std.specs.Prelude.{◌≡◌, ◌<◌, ◌^◌, IfOk, IfSome, length};
 ghost use Rattle.std.specs.List.{position};
 ghost use Rattle.plan_terms.specs.Change.{added};
 ghost use Rattle.exec_terms.specs.Machine.{lists_now};
 ghost use Rattle.exec_terms.specs.Words.{is_on};
-ghost use Rattle.core_terms.specs.Shows.{adding_by, executor_state, load_shown, lost_ids, part_shown, parts_shown, removing_by, state_shown, tasks_shown};
+ghost use Rattle.core_terms.specs.Shows.{adding_by, executor_state, load_shown, lost_ids, part_shown, parts_shown, removing_by, state_shown, task_shown, tasks_shown};
 
 use crate::carried::Carried;
 use crate::file::OpenFile;
@@ -154,17 +154,25 @@ pub fn cluster_shown(
     Ok(Shown::ClusterState(lost, parts))
 }
 
+// The user task at a place.
+fn task_shown(place: usize, task: &UserTask) -> TaskShown
+    requires { place < 2 ^ 63 }
+    ensures { result ≡ task_shown (place, task.now) }
+{
+    TaskShown {
+        id: task_id(place as u64 + 1),
+        op: task.ask.op,
+        status: task.status,
+    }
+}
+
 /// The user tasks.
 pub fn tasks_shown(alloc: Global, tasks: &[UserTask]) -> Result<ListOf<TaskShown>, Memory>
     ensures { IfOk result (λ l. l ≡ tasks_shown tasks.now) }
 {
     let mut shown = Vec::new(alloc);
     for (place, task) in tasks.iter().enumerate() {
-        shown.push(TaskShown {
-            id: task_id(place as u64 + 1),
-            op: task.ask.op,
-            status: task.status,
-        })?;
+        shown.push(task_shown(place, task))?;
     }
     Ok(ListOf::new(shown))
 }

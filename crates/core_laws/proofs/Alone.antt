@@ -50,7 +50,7 @@ use Rattle.core_laws.proofs.Counts.{count_by-absent, count_by-drop}
 use Rattle.core_laws.proofs.Evacuated.{none_of}
 use Rattle.core_laws.proofs.Given.{is_given}
 use Rattle.core_laws.proofs.Jobs.{holder_active}
-use Rattle.core_laws.proofs.Lifts.{ended_work_is_less, only_plans_raise_work, work_is_there}
+use Rattle.core_laws.proofs.Lifts.{ended_work_is_less, only_launches_raise_work, work_is_there}
 use Rattle.core_laws.proofs.Room.{ended_less, failed_free, ended_tickets, launch_most, some_place, take_one}
 use Rattle.core_laws.proofs.Sound.{each_event_keeps_sound}
 use Rattle.core_laws.proofs.Tickets.{place_waiting}
@@ -229,7 +229,7 @@ worked_is_less file s g e input h t w =
     let lent : IsLent u.desk.exec g = lent_behind file s g h t in
     let falls : Falls u.desk (next file u e).desk = reported_falls file u g e sound.tasks.one_each lent w in
     let less = ended_work_is_less file u e sound (works_ends g e w) (reports file u g e lent w).fresh in
-    let no_more = only_plans_raise_work file s event.Take input tt h refl in
+    let no_more = only_launches_raise_work file s event.Take input tt h refl in
     let one : leases_out u.desk.exec.tasks ≤ leases_out s.desk.exec.tasks + 1 = rw (exec_moved s.desk (after_take s.desk.exec)) (take_one s.desk.exec) in
     let jobs : active_jobs u.desk ≤ active_jobs s.desk = active_moved s.desk h.tasks.one_each (after_take s.desk.exec) in
     let tickets : tickets_out u.desk ≤ tickets_out s.desk = tickets_moved s.desk h.tasks.one_each (after_take s.desk.exec) in

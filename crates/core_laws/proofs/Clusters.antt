@@ -1,5 +1,5 @@
 -- The cluster of a request has the brokers and the partitions of the file.
-use Rattle.std.proofs.Common.{◌≡◌, ◌∙◌, ℕ, Bool, true, false, cond, ◌||◌, List, [], ◌∷◌, map, length, get_or, refl, sym, ap, suc}
+use Rattle.std.proofs.Common.{◌≡◌, ◌∙◌, ℕ, Bool, true, false, not, cond, ◌||◌, List, [], ◌∷◌, map, length, get_or, refl, sym, ap, suc}
 use Rattle.std.specs.Prelude.{◌==◌, Option, Some}
 use Rattle.std.specs.List.{list_all}
 use Rattle.std.specs.Option.{option_map_or}
@@ -8,7 +8,7 @@ use Rattle.std.proofs.lemmas.List.{length-map}
 use Rattle.std.proofs.Math.Path.{fun_ext}
 use Rattle.plan_terms.specs.Belongs.{Belongs}
 use Rattle.plan_terms.specs.Cluster.{Cluster, Lists, has, is_known, broker_of}
-use Rattle.plan_terms.specs.Legal.{is_lost}
+use Rattle.plan_terms.specs.Legal.{is_live, is_lost}
 use Rattle.plan_terms.specs.States.{is_dead}
 use Rattle.plan_terms.specs.declared.cluster.Broker.{Broker}
 use Rattle.plan_terms.specs.declared.cluster.Loads.{Loads}
@@ -17,7 +17,7 @@ use Rattle.plan_terms.specs.declared.settings.Sample.{Sample}
 use Rattle.cluster_json.specs.File.{Meaning}
 use Rattle.exec_terms.specs.Stops.{has_died}
 use Rattle.exec_terms.specs.declared.brokers.Host.{Host}
-use Rattle.user_tasks.specs.declared.ask.Ask.{Ask}
+use Rattle.user_tasks.specs.Asks.{AskView}
 use Rattle.core_terms.specs.Asked.{broker_asked, part_asked, state_for, case_of}
 use Rattle.core_terms.specs.Input.{loaded_from, loaded_parts}
 use Rattle.core_terms.specs.State.{broker_now, present}
@@ -52,19 +52,40 @@ length-loaded : (loads : ℕ → Option Loads) (i : ℕ) (ps : List Part) → le
 length-loaded loads i [] = refl
 length-loaded loads i (p ∷ ps) = ap suc (length-loaded loads (suc i) ps)
 
+-- whatever has died and was measured
+pub shape_present : (file : Meaning) (hosts : List Host) (samples : List Sample) → SameShape (present file hosts samples) file.cluster
+unfolding present loaded_parts
+shape_present file hosts samples = record {
+  ids_are = ids-map (broker_now hosts) (λ b. refl) file.cluster.brokers;
+  parts_are = length-loaded _ 0 file.cluster.parts;
+}
+
+-- a broker that died doesn't live in the present cluster
+died_in : (hosts : List Host) (bs : List Broker) (b : ℕ) → has_died hosts b ≡ true → option_map_or (λ (x : Broker). not (is_dead x.state)) (broker_of (map (broker_now hosts) bs) b) false ≡ false
+died_in hosts [] b died = refl
+died_in hosts (x ∷ xs) b died = by (x.id == b) refl (died_in hosts xs b died) where
+  by : (c : Bool) → (x.id == b) ≡ c → option_map_or (λ (y : Broker). not (is_dead y.state)) (broker_of (map (broker_now hosts) xs) b) false ≡ false
+      → option_map_or (λ (y : Broker). not (is_dead y.state)) (cond c (Some (broker_now hosts x)) (broker_of (map (broker_now hosts) xs) b)) false ≡ false
+  by true e more = let here : has_died hosts x.id ≡ true = rw (eqb-true x.id b e) died in rw here refl
+  by false e more = more
+
+pub died_lives_not : (file : Meaning) (hosts : List Host) (samples : List Sample) (b : ℕ) → has_died hosts b ≡ true → is_live (present file hosts samples) b ≡ false
+unfolding present
+died_lives_not file hosts samples b died = died_in hosts file.cluster.brokers b died
+
 -- whatever is asked, and whatever has died and was measured
-pub shape_case : (file : Meaning) (hosts : List Host) (samples : List Sample) (ask : Ask) → SameShape (case_of ask (present file hosts samples)) file.cluster
+pub shape_case : (file : Meaning) (hosts : List Host) (samples : List Sample) (ask : AskView) → SameShape (case_of ask (present file hosts samples)) file.cluster
 unfolding case_of present loaded_parts
 shape_case file hosts samples ask = record {
   ids_are = ids-map (broker_asked ask) (λ b. refl) (map (broker_now hosts) file.cluster.brokers) ∙ ids-map (broker_now hosts) (λ b. refl) file.cluster.brokers;
   parts_are = length-map (loaded_from _ 0 file.cluster.parts) (part_asked ask) ∙ length-loaded _ 0 file.cluster.parts;
 }
 
-dead_asked : (hosts : List Host) (ask : Ask) (x : Broker) → has_died hosts x.id ≡ true → is_dead (state_for ask (broker_now hosts x)) ≡ true
+dead_asked : (hosts : List Host) (ask : AskView) (x : Broker) → has_died hosts x.id ≡ true → is_dead (state_for ask (broker_now hosts x)) ≡ true
 dead_asked hosts ask x h = rw h refl
 
 -- a broker that died is lost in the cluster of each request
-lost_in : (hosts : List Host) (ask : Ask) (bs : List Broker) (b : ℕ) → has_died hosts b ≡ true → has (ids bs) b ≡ true
+lost_in : (hosts : List Host) (ask : AskView) (bs : List Broker) (b : ℕ) → has_died hosts b ≡ true → has (ids bs) b ≡ true
     → option_map_or (λ (x : Broker). is_dead x.state) (broker_of (map (broker_asked ask) (map (broker_now hosts) bs)) b) false ≡ true
 lost_in hosts ask [] b died known = absurd (false≢true known)
 lost_in hosts ask (x ∷ xs) b died known = by (x.id == b) refl known (lost_in hosts ask xs b died) where
@@ -74,7 +95,7 @@ lost_in hosts ask (x ∷ xs) b died known = by (x.id == b) refl known (lost_in h
   by true e k more = dead_asked hosts ask x (rw (eqb-true x.id b e) died)
   by false e k more = more k
 
-pub died_is_lost : (file : Meaning) (hosts : List Host) (samples : List Sample) (ask : Ask) (b : ℕ) → has_died hosts b ≡ true → has (ids file.cluster.brokers) b ≡ true
+pub died_is_lost : (file : Meaning) (hosts : List Host) (samples : List Sample) (ask : AskView) (b : ℕ) → has_died hosts b ≡ true → has (ids file.cluster.brokers) b ≡ true
     → is_lost (case_of ask (present file hosts samples)) b ≡ true
 unfolding case_of present
 died_is_lost file hosts samples ask b died known = lost_in hosts ask file.cluster.brokers b died known

@@ -31,11 +31,11 @@ use Rattle.exec_terms.proofs.Begin.{is_pending_is}
 use Rattle.exec_terms.proofs.Calls.{worth, worth_goes_on}
 use Rattle.exec_terms.proofs.Launch.{length-each_below, get_or-each_below}
 use Rattle.exec_terms.proofs.ListLaws.{list_now-task, lists-other, lists-here, launch_keeps_lists}
-use Rattle.user_tasks.specs.declared.ask.Ask.{Ask}
+use Rattle.user_tasks.specs.Asks.{AskView, changes_factor}
 use Rattle.core_terms.specs.Input.{IsInput}
 use Rattle.core_terms.specs.State.{Desk, Core, Moment, moment_of}
-use Rattle.core_terms.specs.Jobs.{is_done_at_once, user_task_at, with_plan}
-use Rattle.core_terms.specs.Submits.{refusal_of, unless_refused}
+use Rattle.core_terms.specs.Jobs.{admitted, is_done_at_once, user_task_at, with_plan}
+use Rattle.core_terms.specs.Submits.{after_new, change_refusal, changed_by, changes_asked, refusal_of, unless_refused, unless_unchanged}
 use Rattle.core_terms.specs.Plans.{first_waiting, holder_of, ticketed, unticketed, planned, planned_back, refused, with_failure, is_plan_for, is_failure_for}
 use Rattle.core_terms.specs.Works.{caps_of, is_receipt, moved, with_exec}
 use Rattle.core_terms.specs.Writes.{begun, written}
@@ -44,7 +44,7 @@ use Rattle.core_terms.specs.declared.events.Event.TheVariants as event
 use Rattle.core_terms.specs.declared.replies.Reply.{Reply}
 use Rattle.core_laws.specs.Books.{AdminFollows}
 use Rattle.core_laws.proofs.Given.{is_given}
-use Rattle.core_laws.proofs.Sound.{planned_launches}
+use Rattle.core_laws.proofs.Sound.{change_launches, planned_launches}
 use Rattle.core_laws.proofs.Valid.{exec_moved}
 
 -- the lists where each partition's list stays
@@ -242,7 +242,7 @@ moved_still : (d : Desk) (u : State) → lists_now u ≡ lists_now d.exec → So
 moved_still d u h = ap Some (sym (ap lists_now (exec_moved d u) ∙ h))
 
 module _ (d : Desk) where
-  after_submit : (ask : Ask) (o : Option Reply) → Some (lists_now d.exec) ≡ Some (lists_now (unless_refused d ask o).exec)
+  after_submit : (ask : AskView) (o : Option Reply) → Some (lists_now d.exec) ≡ Some (lists_now (unless_refused d ask o).exec)
   after_submit ask None = refl
   after_submit ask (Some r) = refl
 
@@ -285,18 +285,33 @@ after_plan file s n p input plan sound (Some i) q = by (is_plan_for (moment_of f
       chosen true d = rw d refl
       chosen false d = rw d (ap Some (sym (launch_stays s.desk.exec (proposals p.start p.end) (planned_launches file s n p input plan sound i q is d).1)))
 
+-- a change of the replication factor
+after_change : (file : Meaning) (s : Core) (ask : AskView) → changes_factor ask ≡ true → IsInput file → IsSound file s.desk → (o : Option Reply) → change_refusal (moment_of file s) s.desk ask ≡ o
+    → Some (lists_now s.desk.exec) ≡ Some (lists_now (unless_unchanged s.desk ask (changes_asked (moment_of file s) s.desk ask) o).exec)
+after_change file s ask is input sound (Some r) e = refl
+after_change file s ask is input sound None e = chosen (is_done_at_once (user_task_at (admitted s.desk ask).tasks (length s.desk.tasks)) ps) refl where
+  ps : List Proposal
+  ps = changes_asked (moment_of file s) s.desk ask
+
+  chosen : (b : Bool) → is_done_at_once (user_task_at (admitted s.desk ask).tasks (length s.desk.tasks)) ps ≡ b → Some (lists_now s.desk.exec) ≡ Some (lists_now (changed_by s.desk ask ps).exec)
+  chosen true d = rw d refl
+  chosen false d = rw d (ap Some (sym (launch_stays s.desk.exec ps (change_launches file s ask input sound is e d).1)))
+
+after_asked : (file : Meaning) (s : Core) (ask : AskView) → IsInput file → IsSound file s.desk → (b : Bool) → changes_factor ask ≡ b
+    → Some (lists_now s.desk.exec) ≡ Some (lists_now (after_new file (moment_of file s) s.desk ask b).exec)
+after_asked file s ask input h true e = after_change file s ask e input h (change_refusal (moment_of file s) s.desk ask) refl
+after_asked file s ask input h false e = after_submit s.desk ask (refusal_of file (moment_of file s) s.desk ask)
+
 pub admin_follows : AdminFollows
-admin_follows file s (event.Submit ask None) input legal h = after_submit s.desk ask (refusal_of file (moment_of file s) s.desk ask)
-admin_follows file s (event.Submit ask (Some id)) input legal h = refl
+admin_follows file s (event.Submit ask None) input legal h = after_asked file s ask input h (changes_factor ask) refl
 admin_follows file s event.PlanTake input legal h = after_taken s.desk (first_waiting s.desk)
 admin_follows file s (event.Planned ticket plan) input legal h = after_plan file s ticket plan input legal h (holder_of ticket s.desk.jobs) refl
 admin_follows file s (event.Refused ticket failure) input legal h = after_refused s.desk (moment_of file s) failure (holder_of ticket s.desk.jobs)
 admin_follows file s (event.PlanBack ticket) input legal h = after_back s.desk (holder_of ticket s.desk.jobs)
 admin_follows file s (event.Stop force) input legal h = unless_closing s.desk (after_stop s.desk.exec force) (stop_stays s.desk.exec force) s.desk.closing
 admin_follows file s (event.Kill broker) input legal h = unless_closing s.desk (after_kill s.desk.exec broker) (kill_stays s.desk.exec broker) s.desk.closing
-admin_follows file s (event.Sample topic number time loads) input legal h = refl
 admin_follows file s (event.Caps asked) input legal h = unless_closed s.desk (after_caps s.desk.exec (caps_of s.desk asked)) refl s.desk.closing
-admin_follows file s (event.Show query) input legal h = refl
+admin_follows file s (event.Heal cause ask) input legal h = after_asked file s ask input h (changes_factor ask) refl
 admin_follows file s event.Take input legal h = take_writes s.desk.exec h.exec.valid ∙ ap Some (ap lists_now (sym (exec_moved s.desk (after_take s.desk.exec))))
 admin_follows file s (event.Copied receipt) input legal h =
     where_receipt s.desk (after_copied s.desk.exec receipt.lease) (lease_stays one_copied ForCopy s.desk.exec receipt.lease h.exec.valid (λ i e. (refl, refl))) (is_receipt s.desk.exec receipt)
@@ -308,4 +323,4 @@ admin_follows file s (event.Commit lease) input legal h =
 admin_follows file s (event.Cancel lease) input legal h =
     lease_writes cancelled (λ t. t.before) ForCancel s.desk.exec lease h.exec.valid (λ t. refl) cancelled_shown ∙ ap Some (ap lists_now (sym (exec_moved s.desk (after_cancel s.desk.exec lease))))
 admin_follows file s (event.GiveBack lease) input legal h = moved_still s.desk (end_lease s.desk.exec lease) (release_stays s.desk.exec lease h.exec.valid)
-admin_follows file s event.Close input legal h = refl
+admin_follows file s _ input legal h = refl

@@ -24,12 +24,12 @@ use Rattle.exec_terms.specs.Machine.{State, no_task, task_at, any_unfinished, ne
 use Rattle.exec_terms.specs.Leases.{ended_at, end_lease, ended, test_lease, one_copied, one_failed, committed, cancelled}
 use Rattle.exec_terms.specs.Stops.{stopped_by, killed_by, marked, can_die, after_stop, after_kill}
 use Rattle.exec_terms.specs.Runs.{Event as Move, CapsSet, Take, Copied, CopyFailed, Committed, Cancelled, GivenBack, Stops, Killed, Launched, after_event}
-use Rattle.user_tasks.specs.declared.ask.Ask.{Ask}
+use Rattle.user_tasks.specs.Asks.{AskView, changes_factor}
 use Rattle.user_tasks.specs.declared.table.Status.TheVariants as status
 use Rattle.core_terms.specs.Input.{IsInput}
 use Rattle.core_terms.specs.State.{Desk, Core, Moment, moment_of, opening_desk, opening_of}
-use Rattle.core_terms.specs.Jobs.{is_done_at_once, is_in_execution, user_task_at, with_job, with_plan, with_status}
-use Rattle.core_terms.specs.Submits.{refusal_of, unless_refused}
+use Rattle.core_terms.specs.Jobs.{admitted, is_done_at_once, is_in_execution, user_task_at, with_job, with_plan, with_status}
+use Rattle.core_terms.specs.Submits.{after_new, change_refusal, changes_asked, refusal_of, unless_refused, unless_unchanged}
 use Rattle.core_terms.specs.Plans.{first_waiting, holder_of, ticketed, unticketed, planned, planned_back, refused, with_failure, is_plan_for, is_failure_for}
 use Rattle.core_terms.specs.Works.{caps_of, ended_job, ends_execution, execution_ended, is_receipt, moved, with_exec}
 use Rattle.core_terms.specs.Step.{next}
@@ -166,7 +166,7 @@ move_gives s (CapsSet caps) = omega arith
 
 lifted : (e : Event) (s u : State) → IsMove e s u → u.leases ≤ s.leases + 1
 lifted e s u (inl is) = rw is (omega arith)
-lifted e s u (inr (m, nl, can, is)) = rw is (move_gives s m)
+lifted e s u (inr (m, fits, can, is)) = rw is (move_gives s m)
 
 -- the tickets
 moved_tickets : (d : Desk) (u : State) → (moved d u).tickets ≡ d.tickets
@@ -184,9 +184,15 @@ moved_tickets d u = by (ends_execution d.exec.tasks u.tasks) where
   by false = refl
 
 module _ (d : Desk) where
-  submit_gives : (ask : Ask) (o : Option Reply) → (unless_refused d ask o).tickets ≤ d.tickets + 1
+  submit_gives : (ask : AskView) (o : Option Reply) → (unless_refused d ask o).tickets ≤ d.tickets + 1
   submit_gives ask None = omega arith
   submit_gives ask (Some r) = omega arith
+
+  planned_gives : (i : ℕ) (ps : List Proposal) → (with_plan d i ps).tickets ≤ d.tickets + 1
+  planned_gives i ps = by (is_done_at_once (user_task_at d.tasks i) ps) refl where
+    by : (c : Bool) → is_done_at_once (user_task_at d.tasks i) ps ≡ c → (with_plan d i ps).tickets ≤ d.tickets + 1
+    by true e = rw e (omega arith)
+    by false e = rw e (omega arith)
 
   take_gives : (o : Option ℕ) → (ticketed d o).tickets ≤ d.tickets + 1
   take_gives None = omega arith
@@ -226,25 +232,31 @@ module _ (d : Desk) where
   unless_set u true = omega arith
   unless_set u false = omega arith
 
+change_gives : (d : Desk) (ask : AskView) (ps : List Proposal) (o : Option Reply) → (unless_unchanged d ask ps o).tickets ≤ d.tickets + 1
+change_gives d ask ps (Some r) = omega arith
+change_gives d ask ps None = planned_gives (admitted d ask) (length d.tasks) ps
+
+asked_gives : (file : Meaning) (now : Moment) (d : Desk) (ask : AskView) (b : Bool) → (after_new file now d ask b).tickets ≤ d.tickets + 1
+asked_gives file now d ask true = change_gives d ask (changes_asked now d ask) (change_refusal now d ask)
+asked_gives file now d ask false = submit_gives d ask (refusal_of file now d ask)
+
 event_gives : (file : Meaning) (s : Core) (e : Event) → (next file s e).desk.tickets ≤ s.desk.tickets + 1
-event_gives file s (event.Submit ask None) = submit_gives s.desk ask (refusal_of file (moment_of file s) s.desk ask)
-event_gives file s (event.Submit ask (Some id)) = omega arith
+event_gives file s (event.Submit ask None) = asked_gives file (moment_of file s) s.desk ask (changes_factor ask)
 event_gives file s event.PlanTake = take_gives s.desk (first_waiting s.desk)
 event_gives file s (event.Planned ticket plan) = plan_gives s.desk (moment_of file s) plan (holder_of ticket s.desk.jobs)
 event_gives file s (event.Refused ticket failure) = failure_gives s.desk (moment_of file s) failure (holder_of ticket s.desk.jobs)
 event_gives file s (event.PlanBack ticket) = back_gives s.desk (holder_of ticket s.desk.jobs)
 event_gives file s (event.Stop force) = unless s.desk (after_event s.desk.exec (Stops force)) s.desk.closing
 event_gives file s (event.Kill broker) = unless s.desk (after_event s.desk.exec (Killed broker)) s.desk.closing
-event_gives file s (event.Sample topic number time loads) = omega arith
 event_gives file s (event.Caps asked) = unless_set s.desk (after_event s.desk.exec (CapsSet (caps_of s.desk asked))) s.desk.closing
-event_gives file s (event.Show query) = omega arith
+event_gives file s (event.Heal cause ask) = asked_gives file (moment_of file s) s.desk ask (changes_factor ask)
 event_gives file s event.Take = move_keeps s.desk (after_event s.desk.exec Take)
 event_gives file s (event.Copied receipt) = where_so s.desk (after_event s.desk.exec (Copied receipt.lease)) (is_receipt s.desk.exec receipt)
 event_gives file s (event.CopyFailed lease) = move_keeps s.desk (after_event s.desk.exec (CopyFailed lease))
 event_gives file s (event.Commit lease) = move_keeps s.desk (after_event s.desk.exec (Committed lease))
 event_gives file s (event.Cancel lease) = move_keeps s.desk (after_event s.desk.exec (Cancelled lease))
 event_gives file s (event.GiveBack lease) = move_keeps s.desk (after_event s.desk.exec (GivenBack lease))
-event_gives file s event.Close = omega arith
+event_gives file s _ = omega arith
 
 -- over all events from a sound state
 more_given : (file : Meaning) (s : Core) (events : List Event) (n : ℕ) → IsInput file → AreLegal events → IsSound file s.desk → AreGiven s.desk n → AreGiven (fold (next file) s events).desk (n + length events)

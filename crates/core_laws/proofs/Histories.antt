@@ -84,7 +84,7 @@ record IsRun (s t : State) : Type 0 where
 
 longer : (e : Event) (s u t : State) → IsMove e s u → IsNoLower s.caps u.caps → IsRun u t → IsRun s t
 longer e s u t (inl is) low r = rw is at r
-longer e s u t (inr (m, nl, can, is)) low r =
+longer e s u t (inr (m, fits, can, is)) low r =
     let caps : u.caps ≡ caps_after s.caps m = ap (λ (x : State). x.caps) is ∙ caps_are s m in
     record {
       moves = m ∷ r.moves;

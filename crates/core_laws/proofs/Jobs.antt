@@ -12,7 +12,7 @@ use Rattle.exec_terms.specs.Words.{is_unfinished}
 use Rattle.exec_terms.proofs.Counts.{count_by-set}
 use Rattle.exec_terms.proofs.WorkLeft.{position-None}
 use Rattle.user_tasks.specs.Tasks.{is_open, open_count}
-use Rattle.user_tasks.specs.declared.ask.Ask.{Ask}
+use Rattle.user_tasks.specs.Asks.{AskView}
 use Rattle.user_tasks.specs.declared.table.Status.{Status}
 use Rattle.user_tasks.specs.declared.table.Status.TheVariants as status
 use Rattle.user_tasks.specs.declared.table.UserTask.{UserTask}
@@ -98,7 +98,7 @@ one_launched d jobs i p ps a e l h wet none =
     }
 
 -- one more user task, which is active
-pub one_more : (d : Desk) (j : Job) (ask : Ask) → AreTasks d → open_count d.tasks ≤ 15 → (is_dry ask ≡ false → (count_by plans_execution d.tasks ≡ 0) × (any_unfinished d.exec.tasks ≡ false))
+pub one_more : (d : Desk) (j : Job) (ask : AskView) → AreTasks d → open_count d.tasks ≤ 15 → (is_dry ask ≡ false → (count_by plans_execution d.tasks ≡ 0) × (any_unfinished d.exec.tasks ≡ false))
     → AreTasks (record d { jobs = d.jobs ++ j ∷ []; tasks = d.tasks ++ record { ask = ask; status = status.Active } ∷ [] })
 one_more d j ask a few free =
     let new : UserTask = record { ask = ask; status = status.Active } in

@@ -7,20 +7,20 @@ use Rattle.std.proofs.lemmas.List.{length-set, length-append, get_or_append_left
 use Rattle.std.proofs.lemmas.List.Elements.{All-nil}
 use Rattle.std.proofs.lemmas.List.Quantifiers.{position-Some}
 use Rattle.plan_terms.specs.Change.{proposals}
-use Rattle.plan_terms.specs.Cluster.{Cluster}
+use Rattle.plan_terms.specs.Cluster.{Cluster, Lists}
 use Rattle.goal_set.specs.Kept.{PlanView, FailureView}
 use Rattle.goal_set.specs.Read.{read_kinds}
 use Rattle.goal_set.specs.declared.kinds.GoalKind.TheVariants.{Evacuation, Demotion}
 use Rattle.exec_terms.specs.Machine.{State, after_launch}
 use Rattle.exec_terms.specs.Words.{is_completed}
-use Rattle.user_tasks.specs.declared.ask.Ask.{Ask}
+use Rattle.user_tasks.specs.Asks.{AskView}
 use Rattle.user_tasks.specs.declared.table.Status.{Status}
 use Rattle.user_tasks.specs.declared.table.Status.TheVariants as status
 use Rattle.user_tasks.specs.declared.table.UserTask.{UserTask}
-use Rattle.core_terms.specs.Asked.{asks_demotion, goals_of}
+use Rattle.core_terms.specs.Asked.{takes_no_goals, goals_of}
 use Rattle.core_terms.specs.State.{Desk, Moment, no_job, job_at}
-use Rattle.core_terms.specs.Jobs.{no_user_task, user_task_at, is_active, is_in_execution, is_done_at_once, new_job, planned_job, with_job, with_plan, with_status}
-use Rattle.core_terms.specs.Submits.{unless_refused}
+use Rattle.core_terms.specs.Jobs.{admitted, no_user_task, user_task_at, is_active, is_in_execution, is_done_at_once, new_job, planned_job, with_job, with_plan, with_status}
+use Rattle.core_terms.specs.Submits.{unless_refused, unless_unchanged}
 use Rattle.core_terms.specs.Plans.{waits, holder_of, ticketed, unticketed, planned, planned_back, refused, with_failure, goal_failed, is_plan_for, is_failure_for}
 use Rattle.core_terms.specs.Works.{ended_job, ends_execution, execution_ended, moved, with_exec}
 use Rattle.core_terms.specs.Sound.{BeginsWithEvacuation, IsJob}
@@ -62,8 +62,8 @@ jobs_set c tasks new jobs i y l again goals parts h k m =
 jobs_same : (c : Cluster) (tasks new : List UserTask) (jobs : List Job) → NoneAgain tasks new → AreJobs c tasks jobs → AreJobs c new jobs
 jobs_same c tasks new jobs again h k l = record { evacuates = λ active. (h k l).evacuates (again k active); parts = (h k l).parts }
 
-goals_begin : (ask : Ask) → BeginsWithEvacuation (goals_of ask)
-goals_begin ask = by (asks_demotion ask.op) where
+goals_begin : (ask : AskView) → BeginsWithEvacuation (goals_of ask)
+goals_begin ask = by (takes_no_goals ask.op) where
   read : (names : List (List ℕ)) → BeginsWithEvacuation (read_kinds names)
   read [] = (_, refl)
   read (n ∷ ns) = (_, refl)
@@ -73,7 +73,7 @@ goals_begin ask = by (asks_demotion ask.op) where
   by false = read ask.goals
 
 -- one job more
-one_more : (c : Cluster) (tasks : List UserTask) (jobs : List Job) (ask : Ask) → length jobs ≡ length tasks → AreJobs c tasks jobs
+one_more : (c : Cluster) (tasks : List UserTask) (jobs : List Job) (ask : AskView) → length jobs ≡ length tasks → AreJobs c tasks jobs
     → AreJobs c (tasks ++ record { ask = ask; status = status.Active } ∷ []) (jobs ++ new_job ask ∷ [])
 one_more c tasks jobs ask e h k l = by (cases_lt k (length jobs)) where
   by : (k < length jobs) ⊎ (length jobs ≤ k) → IsJob c (user_task_at (tasks ++ record { ask = ask; status = status.Active } ∷ []) k) (job_at (jobs ++ new_job ask ∷ []) k)
@@ -83,9 +83,35 @@ one_more c tasks jobs ask e h k l = by (cases_lt k (length jobs)) where
       let is : job_at (jobs ++ new_job ask ∷ []) k ≡ new_job ask = get_or_push jobs (new_job ask) no_job k (sym here) in
       record { evacuates = λ active. rw is (goals_begin ask); parts = rw is (All-nil (λ p. p.part < length c.parts)) }
 
-pub jobs_submitted : (c : Cluster) (d : Desk) (ask : Ask) (o : Option Reply) → length d.jobs ≡ length d.tasks → AreJobs c d.tasks d.jobs → AreJobs c (unless_refused d ask o).tasks (unless_refused d ask o).jobs
+pub jobs_submitted : (c : Cluster) (d : Desk) (ask : AskView) (o : Option Reply) → length d.jobs ≡ length d.tasks → AreJobs c d.tasks d.jobs → AreJobs c (unless_refused d ask o).tasks (unless_refused d ask o).jobs
 jobs_submitted c d ask (Some r) e h = h
 jobs_submitted c d ask None e h = one_more c d.tasks d.jobs ask e h
+
+-- the plan of a user task
+planned_at : (c : Cluster) (d : Desk) (i : ℕ) (start end : Lists) → i < length d.jobs → length d.jobs ≡ length d.tasks → length start ≡ length c.parts → AreJobs c d.tasks d.jobs
+    → AreJobs c (with_plan d i (proposals start end)).tasks (with_plan d i (proposals start end)).jobs
+planned_at c d i start end l e few h = chosen (is_done_at_once (user_task_at d.tasks i) (proposals start end)) where
+  done : (x : Status) → is_active x ≡ false → AreJobs c (set d.tasks i (record (user_task_at d.tasks i) { status = x })) (set d.jobs i (planned_job (job_at d.jobs i) (proposals start end)))
+  done x off = jobs_set c d.tasks (set d.tasks i (record (user_task_at d.tasks i) { status = x })) d.jobs i (planned_job (job_at d.jobs i) (proposals start end)) l
+      (not_again d.tasks i x (omega (arith, l, e)) off) refl
+      (proposals_all start end (λ r. r.part < length c.parts) (λ k m. omega (arith, m, few))) h
+
+  chosen : (b : Bool)
+      → AreJobs c (cond b (with_status (with_job d i (planned_job (job_at d.jobs i) (proposals start end))) i status.Completed)
+      (record (with_status (with_job d i (planned_job (job_at d.jobs i) (proposals start end))) i status.InExecution) { exec = after_launch d.exec (proposals start end) })).tasks
+      (cond b (with_status (with_job d i (planned_job (job_at d.jobs i) (proposals start end))) i status.Completed)
+      (record (with_status (with_job d i (planned_job (job_at d.jobs i) (proposals start end))) i status.InExecution) { exec = after_launch d.exec (proposals start end) })).jobs
+  chosen true = done status.Completed refl
+  chosen false = done status.InExecution refl
+
+-- a change of the replication factor
+pub jobs_changed : (c : Cluster) (d : Desk) (ask : AskView) (start end : Lists) (o : Option Reply) → length d.jobs ≡ length d.tasks → length start ≡ length c.parts → AreJobs c d.tasks d.jobs
+    → AreJobs c (unless_unchanged d ask (proposals start end) o).tasks (unless_unchanged d ask (proposals start end) o).jobs
+jobs_changed c d ask start end (Some r) e few h = h
+jobs_changed c d ask start end None e few h =
+    let new : UserTask = record { ask = ask; status = status.Active } in
+    planned_at c (admitted d ask) (length d.tasks) start end (omega (arith, length-append d.jobs (new_job ask ∷ []), e))
+    (length-append d.jobs (new_job ask ∷ []) ∙ ap (λ (n : ℕ). n + 1) e ∙ sym (length-append d.tasks (new ∷ []))) few (one_more c d.tasks d.jobs ask e h)
 
 -- the ticket of a job changes
 ticket_set : (c : Cluster) (d : Desk) (i : ℕ) (o : Option ℕ) → i < length d.jobs → AreJobs c d.tasks d.jobs → AreJobs c d.tasks (set d.jobs i (record (job_at d.jobs i) { ticket = o }))

@@ -33,7 +33,7 @@ use Rattle.exec_terms.proofs.Changes.{proposals_all, few_proposals, one_each}
 use Rattle.core_laws.proofs.Clusters.{SameShape, known_lists_same, shape_case, died_is_lost}
 use Rattle.core_laws.proofs.Evacuated.{plan_evacuated}
 
-is_host-has : (hosts : List Host) (b : ℕ) → is_host hosts b ≡ has (map (λ (h : Host). h.id) hosts) b
+pub is_host-has : (hosts : List Host) (b : ℕ) → is_host hosts b ≡ has (map (λ (h : Host). h.id) hosts) b
 is_host-has [] b = refl
 is_host-has (h ∷ hs) b = ap (λ (c : Bool). (h.id == b) || c) (is_host-has hs b)
 

@@ -12,12 +12,15 @@ pub mod Evacuated
 pub mod Clusters
 pub mod Settled
 pub mod Launchable
+pub mod Resizes
 pub mod Execs
 pub mod JobsKept
 pub mod Sound
 pub mod Histories
 pub mod Refusals
 pub mod Lifts
+pub mod Calm
+pub mod Changed
 pub mod Replies
 pub mod Closing
 pub mod Given

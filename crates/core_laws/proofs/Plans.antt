@@ -14,7 +14,7 @@ use Rattle.core_terms.specs.Jobs.{is_done_at_once, no_user_task, plans_execution
 use Rattle.core_laws.specs.Laws.{PlansMeetNoExecution}
 use Rattle.core_laws.proofs.Jobs.{holder_active}
 
-no_first : (s : State) → any_unfinished s.tasks ≡ false → first_unfinished s ≡ None
+pub no_first : (s : State) → any_unfinished s.tasks ≡ false → first_unfinished s ≡ None
 no_first s h = by (first_unfinished s) refl where
   by : (o : Option ℕ) → first_unfinished s ≡ o → o ≡ None
   by None e = refl
@@ -22,7 +22,7 @@ no_first s h = by (first_unfinished s) refl where
       let f = position-Some (λ t. is_unfinished t.phase) s.tasks i no_task e in
       absurd (true≢false (sym (list_any_at (λ t. is_unfinished t.phase) s.tasks i no_task f.0 f.1) ∙ h))
 
-wet : (t : UserTask) (ps : List Proposal) → is_done_at_once t ps ≡ false → is_dry t.ask ≡ false
+pub wet : (t : UserTask) (ps : List Proposal) → is_done_at_once t ps ≡ false → is_dry t.ask ≡ false
 wet t [] h = cc
 wet t (p ∷ ps) h = h
 

@@ -21,10 +21,13 @@ use Rattle.exec_terms.specs.declared.replies.LeaseFault.TheVariants.{Stale, Abor
 use Rattle.exec_terms.specs.declared.replies.Stopped.{Stopped}
 use Rattle.exec_terms.specs.declared.task.Task.{Task}
 use Rattle.exec_terms.specs.declared.work.WorkKind.TheVariants.{Copy as ForCopy, Commit as ForCommit, Cancel as ForCancel}
-use Rattle.user_tasks.specs.declared.ask.Ask.{Ask}
+use Rattle.plan_terms.specs.declared.cluster.Part.{Part}
+use Rattle.plan_terms.specs.declared.lists.Proposal.{Proposal}
+use Rattle.user_tasks.specs.Asks.{AskView, changes_factor}
 use Rattle.core_terms.specs.State.{Desk, Core, Moment, moment_of}
 use Rattle.core_terms.specs.Jobs.{is_in_execution, plans_execution}
-use Rattle.core_terms.specs.Submits.{or_accepted, unless_refused, refusal_of}
+use Rattle.core_terms.specs.Submits.{after_new, change_refusal, changes_asked, or_accepted, or_changed, reply_new, unless_refused, unless_unchanged, refusal_of}
+use Rattle.core_terms.specs.Looks.{looked}
 use Rattle.core_terms.specs.Plans.{first_waiting, holder_of, ticketed, planned, planned_back, refused, reply_take_job, reply_planned, reply_plan_back, reply_refused, is_plan_for, is_failure_for}
 use Rattle.core_terms.specs.Works.{caps_of, execution_ended, with_exec, moved, stop_told, kill_told, sample_told, with_sample, sample_at, sample_refusal, sampled_reply, sampled_at, part_place, take_told, copied_told, failed_told, commit_told, cancel_told, give_back_told, is_receipt}
 use Rattle.core_terms.specs.History.{is_refusal}
@@ -40,9 +43,18 @@ still d = by (any_unfinished d.exec.tasks) where
   by true = refl
   by false = refl
 
-submitted : (d : Desk) (ask : Ask) (o : Option Reply) → is_refusal (or_accepted d o) ≡ true → unless_refused d ask o ≡ d
+submitted : (d : Desk) (ask : AskView) (o : Option Reply) → is_refusal (or_accepted d o) ≡ true → unless_refused d ask o ≡ d
 submitted d ask (Some r) h = refl
 submitted d ask None h = absurd (false≢true h)
+
+-- a reply of a user task is no refusal
+changed : (parts : List Part) (d : Desk) (ask : AskView) (ps : List Proposal) (o : Option Reply) → is_refusal (or_changed parts d ask ps o) ≡ true → unless_unchanged d ask ps o ≡ d
+changed parts d ask ps (Some r) h = refl
+changed parts d ask ps None h = absurd (false≢true h)
+
+asked : (file : Meaning) (now : Moment) (d : Desk) (ask : AskView) (b : Bool) → is_refusal (reply_new file now d ask b) ≡ true → after_new file now d ask b ≡ d
+asked file now d ask true h = changed file.cluster.parts d ask (changes_asked now d ask) (change_refusal now d ask) h
+asked file now d ask false h = submitted d ask (refusal_of file now d ask) h
 
 taken_job : (now : Moment) (d : Desk) (o : Option ℕ) → is_refusal (reply_take_job now d o) ≡ true → ticketed d o ≡ d
 taken_job now d None h = refl
@@ -117,9 +129,16 @@ in_core s d e = rw e refl
 in_samples : (s : Core) (xs : List Sample) → xs ≡ s.samples → record s { samples = xs } ≡ s
 in_samples s xs e = rw e refl
 
+closed_moments : (old new : List (ℕ × ℕ)) (b : Bool) (r : Reply) → (is_refusal r ≡ true → new ≡ old) → is_refusal (cond b reply.Closing r) ≡ true → cond b old new ≡ old
+closed_moments old new true r h k = refl
+closed_moments old new false r h k = h k
+
+in_since : (s : Core) (xs : List (ℕ × ℕ)) → xs ≡ s.since → record s { since = xs } ≡ s
+in_since s xs e = rw e refl
+
 pub refusals_keep_state : RefusalsKeepState
 unfolding end_lease
-refusals_keep_state file s (event.Submit ask None) h = in_core s _ (submitted s.desk ask (refusal_of file (moment_of file s) s.desk ask) h)
+refusals_keep_state file s (event.Submit ask None) h = in_core s _ (asked file (moment_of file s) s.desk ask (changes_factor ask) h)
 refusals_keep_state file s (event.Submit ask (Some id)) h = refl
 refusals_keep_state file s event.PlanTake h = in_core s _ (taken_job (moment_of file s) s.desk (first_waiting s.desk) h)
 refusals_keep_state file s (event.Planned ticket plan) h = in_core s _ (brought (moment_of file s) s.desk plan (holder_of ticket s.desk.jobs) h)
@@ -133,6 +152,8 @@ refusals_keep_state file s (event.Sample topic number time loads) h = in_samples
     (sampled_reply file s.samples time loads (part_place file.cluster.parts topic number)) (not_sampled file s.samples time loads (part_place file.cluster.parts topic number)) h)
 refusals_keep_state file s (event.Caps asked) h = in_core s _ (unless_closing s.desk (with_exec s.desk (after_caps s.desk.exec (caps_of s.desk asked))) s.desk.closing (reply.CapsSet (caps_of s.desk asked)) (λ r. absurd (false≢true r)) h)
 refusals_keep_state file s (event.Show query) h = refl
+refusals_keep_state file s (event.Look now) h = in_since s _ (closed_moments s.since (looked file s now) s.desk.closing _ (λ r. absurd (false≢true r)) h)
+refusals_keep_state file s (event.Heal cause ask) h = in_core s _ (asked file (moment_of file s) s.desk ask (changes_factor ask) h)
 refusals_keep_state file s event.Take h = in_core s _ (idle_takes s.desk (list_any plans_execution s.desk.tasks) s.desk.closing (next_work s.desk.exec) h)
 refusals_keep_state file s (event.Copied receipt) h = in_core s _ (where_receipt s.desk (moved s.desk (after_copied s.desk.exec receipt.lease)) s.desk.exec.leases (is_receipt s.desk.exec receipt) (copied_told (copied_reply s.desk.exec receipt.lease))
     (stale copied_told (λ x. refl) refl (λ t. record { 0 = copies_left (one_copied t) }) one_copied s.desk receipt.lease (test_lease s.desk.exec receipt.lease ForCopy)) h)

@@ -22,6 +22,8 @@ use Rattle.exec_terms.specs.declared.replies.NothingToStop.{NothingToStop}
 use Rattle.exec_terms.specs.declared.replies.Stopped.{Stopped}
 use Rattle.core_terms.specs.State.{Desk, Moment, moment_of}
 use Rattle.core_terms.specs.Jobs.{plans_execution}
+use Rattle.core_terms.specs.Looks.{looked}
+use Rattle.exec_terms.specs.Settled.{settled_lists}
 use Rattle.core_terms.specs.Plans.{first_waiting, holder_of, reply_take_job, reply_planned, reply_plan_back, reply_refused, is_plan_for, is_failure_for}
 use Rattle.core_terms.specs.Works.{caps_of, stop_told, kill_told, sample_told, sample_refusal, sampled_reply, part_place, take_told, lease_told, copied_told, failed_told, commit_told, cancel_told, give_back_told, is_receipt}
 use Rattle.core_terms.specs.declared.events.Event.TheVariants as event
@@ -91,6 +93,8 @@ only_requests_meet_execution file s (event.Sample topic number time loads) h = a
     (sampled_in file s.samples time loads (part_place file.cluster.parts topic number))) ∙ h))
 only_requests_meet_execution file s (event.Caps asked) h = absurd (false≢true (sym (either s.desk.closing reply.Closing (reply.CapsSet (caps_of s.desk asked)) refl refl) ∙ h))
 only_requests_meet_execution file s (event.Show query) h = absurd (false≢true h)
+only_requests_meet_execution file s (event.Look now) h = absurd (false≢true (sym (either s.desk.closing reply.Closing (reply.Looked (record { since = looked file s now; case = (moment_of file s).cluster; lists = settled_lists s.desk.exec })) refl refl) ∙ h))
+only_requests_meet_execution file s (event.Heal cause ask) h = refl
 only_requests_meet_execution file s event.Take h = absurd (false≢true (sym (taken (list_any plans_execution s.desk.tasks) s.desk.closing (next_work s.desk.exec)) ∙ h))
 only_requests_meet_execution file s (event.Copied receipt) h = absurd (false≢true (sym (either (is_receipt s.desk.exec receipt) (copied_told (copied_reply s.desk.exec receipt.lease)) (reply.Stale s.desk.exec.leases)
     (told copied_told (λ x. refl) faulty (copied_reply s.desk.exec receipt.lease)) refl) ∙ h))

@@ -34,11 +34,11 @@ use Rattle.exec_terms.proofs.Calls.{worth}
 use Rattle.exec_terms.proofs.Calm.{AreAll, all_itself, all_map, all_set}
 use Rattle.exec_terms.proofs.Events.{next_step-copy}
 use Rattle.exec_terms.proofs.WorkLeft.{holds_too, same_place}
-use Rattle.user_tasks.specs.declared.ask.Ask.{Ask}
+use Rattle.user_tasks.specs.Asks.{AskView, changes_factor}
 use Rattle.core_terms.specs.Input.{IsInput}
 use Rattle.core_terms.specs.State.{Desk, Core, Moment, moment_of, opening_desk, opening_of}
-use Rattle.core_terms.specs.Jobs.{is_done_at_once, user_task_at, with_plan}
-use Rattle.core_terms.specs.Submits.{refusal_of, unless_refused}
+use Rattle.core_terms.specs.Jobs.{admitted, is_done_at_once, user_task_at, with_plan}
+use Rattle.core_terms.specs.Submits.{after_new, change_refusal, changes_asked, refusal_of, unless_refused, unless_unchanged}
 use Rattle.core_terms.specs.Plans.{first_waiting, holder_of, ticketed, unticketed, planned, planned_back, refused, with_failure, is_plan_for, is_failure_for}
 use Rattle.core_terms.specs.Works.{caps_of, copied_told, is_copy, is_receipt, is_receipt_of, moved, with_exec}
 use Rattle.core_terms.specs.Step.{next}
@@ -52,7 +52,7 @@ use Rattle.core_laws.specs.Reported.{AreReported, CopiesAreReported, copies_told
 use Rattle.core_laws.proofs.Given.{is_given}
 use Rattle.core_laws.proofs.Histories.{histories_are_sound, opening_is_sound}
 use Rattle.core_laws.proofs.Jobs.{calm_first}
-use Rattle.core_laws.proofs.Sound.{each_event_keeps_sound, planned_launches}
+use Rattle.core_laws.proofs.Sound.{change_launches, each_event_keeps_sound, planned_launches}
 use Rattle.core_laws.proofs.Valid.{exec_moved}
 
 -- a task keeps its partition, its copies and how many are done
@@ -271,6 +271,15 @@ begins_not false true e = absurd (false≢true e)
 abbrev KeptFrom : List Task → List ReceiptView → Desk → Type 0
 KeptFrom tasks told d = AreReported d.exec (cond (not (any_unfinished tasks) && any_unfinished d.exec.tasks) [] told)
 
+-- the plan of a user task
+planned_at : (d : Desk) (i : ℕ) (ps : List Proposal) (told : List ReceiptView) → AreReported d.exec told → (is_done_at_once (user_task_at d.tasks i) ps ≡ false → first_unfinished d.exec ≡ None) → KeptFrom d.exec.tasks told (with_plan d i ps)
+planned_at d i [] told h none = rw (begins_not (any_unfinished d.exec.tasks) (any_unfinished d.exec.tasks) refl) h
+planned_at d i (x ∷ xs) told h none = wet (is_done_at_once (user_task_at d.tasks i) (x ∷ xs)) refl
+  where
+    wet : (b : Bool) → is_done_at_once (user_task_at d.tasks i) (x ∷ xs) ≡ b → KeptFrom d.exec.tasks told (with_plan d i (x ∷ xs))
+    wet true q = rw (q, begins_not (any_unfinished d.exec.tasks) (any_unfinished d.exec.tasks) refl) h
+    wet false q = rw (q, none q, calm_first d.exec (none q)) (λ j l. sym (fresh (x ∷ xs) d.exec.chunks j l))
+
 -- a plan is brought
 plan_kept : (file : Meaning) (s : Core) (n : ℕ) (p : PlanView) (told : List ReceiptView) → IsInput file → IsPlan p → IsSound file s.desk → AreReported s.desk.exec told → (o : Option ℕ) → holder_of n s.desk.jobs ≡ o
     → AreReported (planned (moment_of file s) s.desk p o).exec (cond (not (any_unfinished s.desk.exec.tasks) && any_unfinished (planned (moment_of file s) s.desk p o).exec.tasks) [] told)
@@ -278,21 +287,21 @@ plan_kept file s n p told input plan sound h None q = rw (begins_not (any_unfini
 plan_kept file s n p told input plan sound h (Some i) q = by (is_plan_for (moment_of file s).cluster s.desk i p) refl where
   by : (b : Bool) → is_plan_for (moment_of file s).cluster s.desk i p ≡ b → KeptFrom s.desk.exec.tasks told (cond b (with_plan s.desk i (proposals p.start p.end)) (unticketed s.desk i))
   by false is = rw (begins_not (any_unfinished s.desk.exec.tasks) (any_unfinished s.desk.exec.tasks) refl) h
-  by true is = chosen (proposals p.start p.end) (λ d. (planned_launches file s n p input plan sound i q is d).0)
-    where
-      chosen : (ps : List Proposal) → (is_done_at_once (user_task_at s.desk.tasks i) ps ≡ false → first_unfinished s.desk.exec ≡ None) → KeptFrom s.desk.exec.tasks told (with_plan s.desk i ps)
-      chosen [] none = rw (begins_not (any_unfinished s.desk.exec.tasks) (any_unfinished s.desk.exec.tasks) refl) h
-      chosen (x ∷ xs) none = wet (is_done_at_once (user_task_at s.desk.tasks i) (x ∷ xs)) refl
-        where
-          wet : (b : Bool) → is_done_at_once (user_task_at s.desk.tasks i) (x ∷ xs) ≡ b → KeptFrom s.desk.exec.tasks told (with_plan s.desk i (x ∷ xs))
-          wet true d = rw (d, begins_not (any_unfinished s.desk.exec.tasks) (any_unfinished s.desk.exec.tasks) refl) h
-          wet false d = rw (d, none d, calm_first s.desk.exec (none d)) (λ j l. sym (fresh (x ∷ xs) s.desk.exec.chunks j l))
+  by true is = planned_at s.desk i (proposals p.start p.end) told h (λ d. (planned_launches file s n p input plan sound i q is d).0)
+
+-- a request without an id
+asked_kept : (file : Meaning) (s : Core) (ask : AskView) (told : List ReceiptView) → IsInput file → IsSound file s.desk → AreReported s.desk.exec told → (b : Bool) → changes_factor ask ≡ b
+    → KeptFrom s.desk.exec.tasks told (after_new file (moment_of file s) s.desk ask b)
+asked_kept file s ask told input sound h false e = by (refusal_of file (moment_of file s) s.desk ask) where
+  by : (o : Option Reply) → KeptFrom s.desk.exec.tasks told (unless_refused s.desk ask o)
+  by None = rw (begins_not (any_unfinished s.desk.exec.tasks) (any_unfinished s.desk.exec.tasks) refl) h
+  by (Some r) = rw (begins_not (any_unfinished s.desk.exec.tasks) (any_unfinished s.desk.exec.tasks) refl) h
+asked_kept file s ask told input sound h true e = by (change_refusal (moment_of file s) s.desk ask) refl where
+  by : (o : Option Reply) → change_refusal (moment_of file s) s.desk ask ≡ o → KeptFrom s.desk.exec.tasks told (unless_unchanged s.desk ask (changes_asked (moment_of file s) s.desk ask) o)
+  by (Some r) q = rw (begins_not (any_unfinished s.desk.exec.tasks) (any_unfinished s.desk.exec.tasks) refl) h
+  by None q = planned_at (admitted s.desk ask) (length s.desk.tasks) (changes_asked (moment_of file s) s.desk ask) told h (λ d. (change_launches file s ask input sound e q d).0)
 
 module _ (told : List ReceiptView) (d : Desk) (h : AreReported d.exec told) where
-  after_submit : (ask : Ask) (o : Option Reply) → AreReported (unless_refused d ask o).exec told
-  after_submit ask None = h
-  after_submit ask (Some r) = h
-
   after_taken : (o : Option ℕ) → AreReported (ticketed d o).exec told
   after_taken None = h
   after_taken (Some i) = h
@@ -322,24 +331,23 @@ copied_event d r told v h true e = rw (exec_moved d (after_copied d.exec r.lease
 copied_event d r told v h false e = h
 
 event_kept : (file : Meaning) (s : Core) (e : Event) (told : List ReceiptView) → IsInput file → IsLegal e → IsSound file s.desk → AreReported s.desk.exec told → AreReported (next file s e).desk.exec (reported file s e told)
-event_kept file s (event.Submit ask None) told input legal x h = after_submit told s.desk h ask (refusal_of file (moment_of file s) s.desk ask)
-event_kept file s (event.Submit ask (Some id)) told input legal x h = h
+event_kept file s (event.Submit ask None) told input legal x h = asked_kept file s ask told input x h (changes_factor ask) refl
+event_kept file s (event.Submit ask (Some id)) told input legal x h = rw (begins_not (any_unfinished s.desk.exec.tasks) (any_unfinished s.desk.exec.tasks) refl) h
+event_kept file s (event.Heal cause ask) told input legal x h = asked_kept file s ask told input x h (changes_factor ask) refl
 event_kept file s event.PlanTake told input legal x h = after_taken told s.desk h (first_waiting s.desk)
 event_kept file s (event.Planned ticket plan) told input legal x h = plan_kept file s ticket plan told input legal x h (holder_of ticket s.desk.jobs) refl
 event_kept file s (event.Refused ticket failure) told input legal x h = after_refused told s.desk h (moment_of file s) failure (holder_of ticket s.desk.jobs)
 event_kept file s (event.PlanBack ticket) told input legal x h = after_back told s.desk h (holder_of ticket s.desk.jobs)
 event_kept file s (event.Stop force) told input legal x h = unless_closing told s.desk h (after_stop s.desk.exec force) (stop_same s.desk.exec force) s.desk.closing
 event_kept file s (event.Kill broker) told input legal x h = unless_closing told s.desk h (after_kill s.desk.exec broker) (kill_same s.desk.exec broker) s.desk.closing
-event_kept file s (event.Sample topic number time loads) told input legal x h = h
 event_kept file s (event.Caps asked) told input legal x h = unless_closed told s.desk h (after_event s.desk.exec (CapsSet (caps_of s.desk asked))) (itself s.desk.exec) s.desk.closing
-event_kept file s (event.Show query) told input legal x h = h
 event_kept file s event.Take told input legal x h = moved_still s.desk (after_take s.desk.exec) told (take_same s.desk.exec) h
 event_kept file s (event.Copied receipt) told input legal x h = copied_event s.desk receipt told x.exec.valid h (is_receipt s.desk.exec receipt) refl
 event_kept file s (event.CopyFailed lease) told input legal x h = moved_still s.desk (after_event s.desk.exec (CopyFailed lease)) told (lease_same one_failed same_failed ForCopy s.desk.exec lease) h
 event_kept file s (event.Commit lease) told input legal x h = moved_still s.desk (after_event s.desk.exec (Committed lease)) told (lease_same committed same_committed ForCommit s.desk.exec lease) h
 event_kept file s (event.Cancel lease) told input legal x h = moved_still s.desk (after_event s.desk.exec (Cancelled lease)) told (lease_same cancelled same_cancelled ForCancel s.desk.exec lease) h
 event_kept file s (event.GiveBack lease) told input legal x h = moved_still s.desk (end_lease s.desk.exec lease) told (release_same s.desk.exec lease) h
-event_kept file s event.Close told input legal x h = h
+event_kept file s _ told input legal x h = h
 
 all_kept : (file : Meaning) (s : Core) (told : List ReceiptView) (events : List Event) → IsInput file → AreLegal events → IsSound file s.desk → AreReported s.desk.exec told
     → AreReported (fold (next file) s events).desk.exec (reported_from file s told events)

@@ -30,11 +30,14 @@ use Rattle.exec_terms.proofs.Calls.{worth}
 use Rattle.exec_terms.proofs.Counts.{count_by-map, count_by-set, count_by-set_one}
 use Rattle.exec_terms.proofs.Launch.{all_pending}
 use Rattle.exec_terms.proofs.WorkLeft.{holds_too, position-None}
-use Rattle.user_tasks.specs.declared.ask.Ask.{Ask}
+use Rattle.user_tasks.specs.Asks.{AskView, changes_factor}
+use Rattle.user_tasks.specs.declared.table.UserTask.{UserTask}
+use Rattle.cluster_json.specs.File.{Meaning}
+use Rattle.std.proofs.lemmas.List.{length-append}
 use Rattle.user_tasks.specs.declared.table.Status.TheVariants as status
 use Rattle.core_terms.specs.State.{Desk, Moment, moment_of, no_job, job_at}
-use Rattle.core_terms.specs.Jobs.{is_done_at_once, is_in_execution, new_job, no_user_task, planned_job, user_task_at, with_job, with_plan, with_status}
-use Rattle.core_terms.specs.Submits.{refusal_of, unless_refused}
+use Rattle.core_terms.specs.Jobs.{admitted, is_done_at_once, is_in_execution, new_job, no_user_task, planned_job, user_task_at, with_job, with_plan, with_status}
+use Rattle.core_terms.specs.Submits.{after_new, change_refusal, changes_asked, refusal_of, unless_refused, unless_unchanged}
 use Rattle.core_terms.specs.Plans.{first_waiting, goal_failed, has_ticket, holder_of, is_ticket, is_failure_for, is_plan_for, planned, planned_back, refused, ticketed, unticketed, waits, with_failure}
 use Rattle.core_terms.specs.Works.{caps_of, closed, ended_job, ends_execution, execution_ended, is_copy, is_receipt, is_receipt_of, moved, with_exec}
 use Rattle.core_terms.specs.History.{kept_for}
@@ -210,11 +213,21 @@ module _ (d : Desk) (one : length d.jobs ≡ length d.tasks) where
   unless_closed u h false = omega (arith, h)
 
   -- a new job has no ticket
-  submitted : (ask : Ask) (o : Option Reply) → kept_for (unless_refused d ask o) + 1 ≤ kept_for d + 2
+  submitted : (ask : AskView) (o : Option Reply) → kept_for (unless_refused d ask o) + 1 ≤ kept_for d + 2
   submitted ask (Some r) = omega arith
   submitted ask None =
       let jobs : count_by is_given_out (d.jobs ++ new_job ask ∷ []) ≡ tickets_out d = sum_by-append (λ j. cond (is_given_out j) 1 0) d.jobs (new_job ask ∷ []) ∙ omega (arith, sum_by-cons (λ j. cond (is_given_out j) 1 0) (new_job ask) []) in
       omega (arith, jobs)
+
+  -- the plan of a user task
+  planned_at : (i : ℕ) (ps : List Proposal) → i < length d.jobs → kept_for (with_plan d i ps) + 1 ≤ kept_for d + 1
+  planned_at i ps l = chosen (is_done_at_once (user_task_at d.tasks i) ps) refl where
+    fewer : count_by is_given_out (set d.jobs i (planned_job (job_at d.jobs i) ps)) ≤ tickets_out d
+    fewer = count_by-set is_given_out d.jobs i (planned_job (job_at d.jobs i) ps) no_job l (λ q. absurd (false≢true q))
+
+    chosen : (b : Bool) → is_done_at_once (user_task_at d.tasks i) ps ≡ b → kept_for (with_plan d i ps) + 1 ≤ kept_for d + 1
+    chosen true q = rw q (omega (arith, fewer))
+    chosen false q = rw q (omega (arith, fewer, launch_most d.exec ps))
 
   waiting_there : (i : ℕ) → first_waiting d ≡ Some i → i < length d.jobs
   waiting_there i e = zip_within d.tasks d.jobs i (position-Some waits (zip d.tasks d.jobs) i (no_user_task, no_job) e).0
@@ -295,18 +308,28 @@ receipt_kept : (d : Desk) → length d.jobs ≡ length d.tasks → (u : State) (
 receipt_kept d one u true less = move_less d one u (less refl)
 receipt_kept d one u false less = omega arith
 
+-- a change of the replication factor
+changed : (d : Desk) → length d.jobs ≡ length d.tasks → (ask : AskView) (ps : List Proposal) (o : Option Reply) → kept_for (unless_unchanged d ask ps o) + 1 ≤ kept_for d + 2
+changed d one ask ps (Some r) = omega arith
+changed d one ask ps None =
+    let new : UserTask = record { ask = ask; status = status.Active } in
+    let both : length (d.jobs ++ new_job ask ∷ []) ≡ length (d.tasks ++ new ∷ []) = length-append d.jobs (new_job ask ∷ []) ∙ ap (λ (n : ℕ). n + 1) one ∙ sym (length-append d.tasks (new ∷ [])) in
+    omega (arith, planned_at (admitted d ask) both (length d.tasks) ps (omega (arith, length-append d.jobs (new_job ask ∷ []), one)), submitted d one ask None)
+
+asked : (file : Meaning) (now : Moment) (d : Desk) → length d.jobs ≡ length d.tasks → (ask : AskView) (b : Bool) → kept_for (after_new file now d ask b) + 1 ≤ kept_for d + 2
+asked file now d one ask true = changed d one ask (changes_asked now d ask) (change_refusal now d ask)
+asked file now d one ask false = submitted d one ask (refusal_of file now d ask)
+
 pub room_is_kept : RoomIsKept
-room_is_kept file s (event.Submit ask None) input legal h = submitted s.desk h.tasks.one_each ask (refusal_of file (moment_of file s) s.desk ask)
-room_is_kept file s (event.Submit ask (Some id)) input legal h = omega arith
+room_is_kept file s (event.Submit ask None) input legal h = asked file (moment_of file s) s.desk h.tasks.one_each ask (changes_factor ask)
 room_is_kept file s event.PlanTake input legal h = taken_out s.desk h.tasks.one_each (first_waiting s.desk) refl
 room_is_kept file s (event.Planned ticket plan) input legal h = plans s.desk h.tasks.one_each (moment_of file s) plan ticket (holder_of ticket s.desk.jobs) refl
 room_is_kept file s (event.Refused ticket failure) input legal h = refuses s.desk h.tasks.one_each (moment_of file s) failure ticket (holder_of ticket s.desk.jobs) refl
 room_is_kept file s (event.PlanBack ticket) input legal h = back s.desk h.tasks.one_each ticket (holder_of ticket s.desk.jobs) refl (list_any (has_ticket ticket) s.desk.jobs) refl
 room_is_kept file s (event.Stop force) input legal h = unless_closing s.desk h.tasks.one_each (after_stop s.desk.exec force) (stop_most s.desk.exec force) s.desk.closing
 room_is_kept file s (event.Kill broker) input legal h = unless_closing s.desk h.tasks.one_each (after_kill s.desk.exec broker) (kill_most s.desk.exec broker) s.desk.closing
-room_is_kept file s (event.Sample topic number time loads) input legal h = omega arith
 room_is_kept file s (event.Caps asked) input legal h = unless_closed s.desk h.tasks.one_each (after_caps s.desk.exec (caps_of s.desk asked)) (omega arith) s.desk.closing
-room_is_kept file s (event.Show query) input legal h = omega arith
+room_is_kept file s (event.Heal cause ask) input legal h = asked file (moment_of file s) s.desk h.tasks.one_each ask (changes_factor ask)
 room_is_kept file s event.Take input legal h = move_one s.desk h.tasks.one_each (after_take s.desk.exec) (take_one s.desk.exec)
 room_is_kept file s (event.Copied receipt) input legal h =
     receipt_kept s.desk h.tasks.one_each (after_copied s.desk.exec receipt.lease) (is_receipt s.desk.exec receipt)
@@ -324,3 +347,4 @@ room_is_kept file s (event.GiveBack lease) input legal h =
     lease_move s.desk h.tasks.one_each (end_lease s.desk.exec lease) (list_any (holds lease) s.desk.exec.tasks)
     (λ q. end_less s.desk.exec lease q) (end_most s.desk.exec lease)
 room_is_kept file s event.Close input legal h = closes s.desk h.tasks.one_each s.desk.closing refl
+room_is_kept file s _ input legal h = omega arith

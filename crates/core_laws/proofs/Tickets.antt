@@ -6,7 +6,8 @@ use Rattle.exec_terms.specs.Words.{is_completed}
 use Rattle.std.proofs.lemmas.Slice.Zip.{get_or-zip}
 use Rattle.std.proofs.lemmas.List.Sums.{sum_by-cons, sum_by-append}
 use Rattle.std.proofs.lemmas.Bool.{true≢false, false≢true, eqb-true, eq-eqb}
-use Rattle.std.proofs.lemmas.List.{get_or-set_same, get_or-set_other, get_or_default}
+use Rattle.plan_terms.specs.declared.lists.Proposal.{Proposal}
+use Rattle.std.proofs.lemmas.List.{length-append, get_or-set_same, get_or-set_other, get_or_default}
 use Rattle.std.proofs.lemmas.List.Quantifiers.{position-Some}
 use Rattle.exec_terms.proofs.Counts.{count_by-set, count_by-set_one, count_by_none}
 use Rattle.plan_terms.specs.Change.{proposals}
@@ -15,13 +16,13 @@ use Rattle.cluster_json.specs.File.{Meaning}
 use Rattle.exec_terms.specs.Machine.{State, after_caps, after_launch, after_take as after_taken}
 use Rattle.exec_terms.specs.Leases.{after_copied, after_copy_failed, after_commit, after_cancel, end_lease}
 use Rattle.exec_terms.specs.Stops.{after_stop, after_kill}
-use Rattle.user_tasks.specs.declared.ask.Ask.{Ask}
+use Rattle.user_tasks.specs.Asks.{AskView, changes_factor}
 use Rattle.user_tasks.specs.declared.table.Status.{Status}
 use Rattle.user_tasks.specs.declared.table.Status.TheVariants as status
 use Rattle.user_tasks.specs.declared.table.UserTask.{UserTask}
 use Rattle.core_terms.specs.State.{Desk, Moment, moment_of, no_job, job_at}
-use Rattle.core_terms.specs.Jobs.{is_active, is_done_at_once, is_in_execution, new_job, no_user_task, planned_job, user_task_at, with_job, with_plan, with_status}
-use Rattle.core_terms.specs.Submits.{refusal_of, unless_refused}
+use Rattle.core_terms.specs.Jobs.{admitted, is_active, is_done_at_once, is_in_execution, new_job, no_user_task, planned_job, user_task_at, with_job, with_plan, with_status}
+use Rattle.core_terms.specs.Submits.{after_new, change_refusal, changes_asked, refusal_of, unless_refused, unless_unchanged}
 use Rattle.core_terms.specs.Plans.{is_ticket, has_ticket, holder_of, waits, first_waiting, ticketed, unticketed, planned_back, refused, with_failure, goal_failed, planned, is_plan_for, is_failure_for}
 use Rattle.core_terms.specs.Works.{caps_of, ended_job, ends_execution, execution_ended, with_exec, moved, is_receipt}
 use Rattle.core_terms.specs.Sound.{AreTasks, AreTickets}
@@ -148,7 +149,7 @@ more_tickets d j u none h t = record {
     count n = sum_by-append (λ x. cond (has_ticket n x) 1 0) d.jobs (j ∷ [])
         ∙ omega (arith, sum_by-cons (λ x. cond (has_ticket n x) 1 0) j [], ap (λ (o : Option ℕ). cond {A = ℕ} (is_ticket n o) 1 0) none)
 
-after_submit : (file : Meaning) (d : Desk) (ask : Ask) (o : Option Reply) → AreTickets d → AreTickets (unless_refused d ask o)
+after_submit : (file : Meaning) (d : Desk) (ask : AskView) (o : Option Reply) → AreTickets d → AreTickets (unless_refused d ask o)
 after_submit file d ask (Some r) t = t
 after_submit file d ask None t = more_tickets d (new_job ask) (record { ask = ask; status = status.Active }) refl refl t
 
@@ -192,20 +193,35 @@ after_failure now d n f t (Some i) e = by (is_failure_for now.cluster d i f) whe
   by true = ticket_over d i (record (job_at d.jobs i) { ticket = None; broken = Some (record { goal = goal_failed f; left = f.left }) }) (set d.tasks i (record (user_task_at d.tasks i) { status = status.CompletedWithError })) (found d n i e) refl (others d.tasks i _) t
   by false = end_ticket d i (found d n i e) t
 
+-- the plan of a user task
+planned_at : (d : Desk) (i : ℕ) (ps : List Proposal) → i < length d.jobs → AreTickets d → AreTickets (with_plan d i ps)
+planned_at d i ps l t = chosen (is_done_at_once (user_task_at d.tasks i) ps) where
+  done : (x : Status) → AreTickets (with_status (with_job d i (planned_job (job_at d.jobs i) ps)) i x)
+  done x = ticket_over d i (planned_job (job_at d.jobs i) ps) (set d.tasks i (record (user_task_at d.tasks i) { status = x })) l refl (others d.tasks i _) t
+
+  chosen : (b : Bool) → AreTickets (cond b (with_status (with_job d i (planned_job (job_at d.jobs i) ps)) i status.Completed)
+      (record (with_status (with_job d i (planned_job (job_at d.jobs i) ps)) i status.InExecution) { exec = after_launch d.exec ps }))
+  chosen true = done status.Completed
+  chosen false = anywhere (with_status (with_job d i (planned_job (job_at d.jobs i) ps)) i status.InExecution) (after_launch d.exec ps) (done status.InExecution)
+
 after_plan : (now : Moment) (d : Desk) (n : ℕ) (p : PlanView) → AreTickets d → (o : Option ℕ) → holder_of n d.jobs ≡ o → AreTickets (planned now d p o)
 after_plan now d n p t None e = t
 after_plan now d n p t (Some i) e = by (is_plan_for now.cluster d i p) where
-  done : (x : Status) → AreTickets (with_status (with_job d i (planned_job (job_at d.jobs i) (proposals p.start p.end))) i x)
-  done x = ticket_over d i (planned_job (job_at d.jobs i) (proposals p.start p.end)) (set d.tasks i (record (user_task_at d.tasks i) { status = x })) (found d n i e) refl (others d.tasks i _) t
-
-  chosen : (b : Bool) → AreTickets (cond b (with_status (with_job d i (planned_job (job_at d.jobs i) (proposals p.start p.end))) i status.Completed)
-      (record (with_status (with_job d i (planned_job (job_at d.jobs i) (proposals p.start p.end))) i status.InExecution) { exec = after_launch d.exec (proposals p.start p.end) }))
-  chosen true = done status.Completed
-  chosen false = anywhere (with_status (with_job d i (planned_job (job_at d.jobs i) (proposals p.start p.end))) i status.InExecution) (after_launch d.exec (proposals p.start p.end)) (done status.InExecution)
-
   by : (b : Bool) → AreTickets (cond b (with_plan d i (proposals p.start p.end)) (unticketed d i))
-  by true = chosen (is_done_at_once (user_task_at d.tasks i) (proposals p.start p.end))
+  by true = planned_at d i (proposals p.start p.end) (found d n i e) t
   by false = end_ticket d i (found d n i e) t
+
+-- a change of the replication factor
+after_change : (d : Desk) (ask : AskView) (ps : List Proposal) (o : Option Reply) → AreTasks d → AreTickets d → AreTickets (unless_unchanged d ask ps o)
+after_change d ask ps (Some r) a t = t
+after_change d ask ps None a t =
+    planned_at (admitted d ask) (length d.tasks) ps (omega (arith, length-append d.jobs (new_job ask ∷ []), a.one_each))
+    (more_tickets d (new_job ask) (record { ask = ask; status = status.Active }) refl refl t)
+
+-- a request without an id
+after_asked : (file : Meaning) (now : Moment) (d : Desk) (ask : AskView) → AreTasks d → AreTickets d → (b : Bool) → AreTickets (after_new file now d ask b)
+after_asked file now d ask a t true = after_change d ask (changes_asked now d ask) (change_refusal now d ask) a t
+after_asked file now d ask a t false = after_submit file d ask (refusal_of file now d ask) t
 
 unless_closing : (d : Desk) (e : State) → AreTasks d → AreTickets d → (b : Bool) → AreTickets (cond b d (moved d e))
 unless_closing d e a t true = t
@@ -220,17 +236,15 @@ where_receipt d e a t true = moved_tickets d e a t
 where_receipt d e a t false = t
 
 pub events_keep_tickets : EventsKeepTickets
-events_keep_tickets file s (event.Submit ask None) a t = after_submit file s.desk ask (refusal_of file (moment_of file s) s.desk ask) t
-events_keep_tickets file s (event.Submit ask (Some id)) a t = t
+events_keep_tickets file s (event.Submit ask None) a t = after_asked file (moment_of file s) s.desk ask a t (changes_factor ask)
 events_keep_tickets file s event.PlanTake a t = after_take s.desk a t (first_waiting s.desk) refl
 events_keep_tickets file s (event.Planned ticket plan) a t = after_plan (moment_of file s) s.desk ticket plan t (holder_of ticket s.desk.jobs) refl
 events_keep_tickets file s (event.Refused ticket failure) a t = after_failure (moment_of file s) s.desk ticket failure t (holder_of ticket s.desk.jobs) refl
 events_keep_tickets file s (event.PlanBack ticket) a t = after_back s.desk ticket t (holder_of ticket s.desk.jobs) refl
 events_keep_tickets file s (event.Stop force) a t = unless_closing s.desk (after_stop s.desk.exec force) a t s.desk.closing
 events_keep_tickets file s (event.Kill broker) a t = unless_closing s.desk (after_kill s.desk.exec broker) a t s.desk.closing
-events_keep_tickets file s (event.Sample topic number time loads) a t = t
 events_keep_tickets file s (event.Caps asked) a t = unless_closed s.desk (after_caps s.desk.exec (caps_of s.desk asked)) t s.desk.closing
-events_keep_tickets file s (event.Show query) a t = t
+events_keep_tickets file s (event.Heal cause ask) a t = after_asked file (moment_of file s) s.desk ask a t (changes_factor ask)
 events_keep_tickets file s event.Take a t = moved_tickets s.desk (after_taken s.desk.exec) a t
 events_keep_tickets file s (event.Copied receipt) a t = where_receipt s.desk (after_copied s.desk.exec receipt.lease) a t (is_receipt s.desk.exec receipt)
 events_keep_tickets file s (event.CopyFailed lease) a t = moved_tickets s.desk (after_copy_failed s.desk.exec lease) a t
@@ -238,3 +252,4 @@ events_keep_tickets file s (event.Commit lease) a t = moved_tickets s.desk (afte
 events_keep_tickets file s (event.Cancel lease) a t = moved_tickets s.desk (after_cancel s.desk.exec lease) a t
 events_keep_tickets file s (event.GiveBack lease) a t = moved_tickets s.desk (end_lease s.desk.exec lease) a t
 events_keep_tickets file s event.Close a t = record { one_holder = t.one_holder; given = t.given; active = t.active }
+events_keep_tickets file s _ a t = t

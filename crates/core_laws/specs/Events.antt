@@ -7,14 +7,18 @@ use Rattle.exec_terms.specs.CapLaws.{starts, StartKeepsCaps, NoCountRises, IsNoL
 use Rattle.exec_terms.specs.Machine.{State, any_unfinished, list_now, lists_now, task_at}
 use Rattle.exec_terms.specs.ListLaws.{is_drained}
 use Rattle.exec_terms.specs.Settled.{settled_lists}
-use Rattle.exec_terms.specs.Runs.{Event as Move, IsLaunch, CanHappen, after_event}
+use Rattle.exec_terms.specs.Runs.{Event as Move, CapsSet, Take, Copied, CopyFailed, Committed, Cancelled, GivenBack, Stops, Killed, Launched, CanHappen, after_event}
 use Rattle.exec_terms.specs.Valid.{AreCapsKept, work_left}
 use Rattle.exec_terms.specs.Words.{is_free, list_shown}
 use Rattle.exec_terms.specs.declared.replies.Given.{Given}
+use Rattle.cluster_gate.specs.Receipts.{ReceiptView}
+use Rattle.core_terms.specs.Caps.{CapsAsked}
 use Rattle.core_terms.specs.Input.{IsInput}
 use Rattle.core_terms.specs.State.{Core, Desk, moment_of, opening_of}
 use Rattle.core_terms.specs.Jobs.{executing, plans_execution}
+use Rattle.core_terms.specs.Submits.{MayChange}
 use Rattle.core_terms.specs.Plans.{MayPlan}
+use Rattle.user_tasks.specs.Asks.{AskView, changes_factor}
 use Rattle.core_terms.specs.Step.{reply_of, next}
 use Rattle.core_terms.specs.History.{AreLegal, IsLegal, is_refusal, state_after}
 use Rattle.core_terms.specs.Sound.{AreTasks, IsSound}
@@ -28,14 +32,34 @@ use Rattle.core_terms.specs.declared.replies.Reply.TheVariants as reply
 abbrev pub PlansCanBeLaunched : Type 0
 PlansCanBeLaunched = (file : Meaning) (s : Core) (ticket : ℕ) (p : PlanView) → IsInput file → IsPlan p → IsSound file s.desk → MayPlan (moment_of file s).cluster s.desk ticket p
 
--- a plan is brought
-abbrev pub is_planned : Event → Bool
-is_planned (event.Planned ticket plan) = true
-is_planned _ = false
+-- where a change of the replication factor is taken and is to be carried out, no task is unfinished and it can be launched: so it adds
+-- no lost broker
+abbrev pub ChangesCanBeLaunched : Type 0
+ChangesCanBeLaunched = (file : Meaning) (s : Core) (ask : AskView) → IsInput file → IsSound file s.desk → MayChange (moment_of file s) s.desk ask
 
--- what an event does to the executor: nothing, or what one of the executor's events does, which is a launch only where a plan is brought
+-- the events that may launch an execution: a plan, and a request for another replication factor, whoever makes it
+abbrev pub may_launch : Event → Bool
+may_launch (event.Planned ticket plan) = true
+may_launch (event.Submit ask key) = changes_factor ask
+may_launch (event.Heal cause ask) = changes_factor ask
+may_launch _ = false
+
+-- the event of the executor that goes with an event: the one of its name; a launch goes with those that may launch
+abbrev pub Fits : Event → Move → Type 0
+Fits e Take = e ≡ event.Take
+Fits e (Copied lease) = (receipt : ReceiptView) × (e ≡ event.Copied receipt) × (receipt.lease ≡ lease)
+Fits e (CopyFailed lease) = e ≡ event.CopyFailed lease
+Fits e (Committed lease) = e ≡ event.Commit lease
+Fits e (Cancelled lease) = e ≡ event.Cancel lease
+Fits e (GivenBack lease) = e ≡ event.GiveBack lease
+Fits e (Stops force) = e ≡ event.Stop force
+Fits e (Killed broker) = e ≡ event.Kill broker
+Fits e (Launched proposals) = may_launch e ≡ true
+Fits e (CapsSet caps) = (asked : CapsAsked) × (e ≡ event.Caps asked)
+
+-- what an event does to the executor: nothing, or what the executor's event does that goes with it
 abbrev pub IsMove : Event → State → State → Type 0
-IsMove e s u = (u ≡ s) ⊎ ((m : Move) × (IsLaunch m → is_planned e ≡ true) × CanHappen s m × (u ≡ after_event s m))
+IsMove e s u = (u ≡ s) ⊎ ((m : Move) × Fits e m × CanHappen s m × (u ≡ after_event s m))
 
 -- each legal event does no more
 abbrev pub EventsMoveExecutor : Type 0
@@ -51,9 +75,9 @@ abbrev pub OthersRaiseNone : Type 0
 OthersRaiseNone = (file : Meaning) (s : Core) (e : Event) → IsInput file → IsLegal e → IsSound file s.desk
     → ((i : ℕ) → i < length s.desk.exec.tasks → starts s.desk.exec (next file s e).desk.exec i ≡ false) → NoCountRises s.desk.exec (next file s e).desk.exec
 
--- no event but a plan raises the work that is left
-abbrev pub OnlyPlansRaiseWork : Type 0
-OnlyPlansRaiseWork = (file : Meaning) (s : Core) (e : Event) → IsInput file → IsLegal e → IsSound file s.desk → is_planned e ≡ false → work_left (next file s e).desk.exec ≤ work_left s.desk.exec
+-- no event but one that may launch raises the work that is left
+abbrev pub OnlyLaunchesRaiseWork : Type 0
+OnlyLaunchesRaiseWork = (file : Meaning) (s : Core) (e : Event) → IsInput file → IsLegal e → IsSound file s.desk → may_launch e ≡ false → work_left (next file s e).desk.exec ≤ work_left s.desk.exec
 
 -- the events that end a lease with what came of its work
 abbrev pub ends_work : Event → Bool
@@ -81,10 +105,11 @@ WorkIsThere = (file : Meaning) (s : Core) → IsSound file s.desk → any_unfini
 abbrev pub RefusalsKeepState : Type 0
 RefusalsKeepState = (file : Meaning) (s : Core) (e : Event) → is_refusal (reply_of file s e) ≡ true → next file s e ≡ s
 
--- a request
-abbrev pub is_submit : Event → Bool
-is_submit (event.Submit ask key) = true
-is_submit _ = false
+-- a request, whoever makes it
+abbrev pub is_request : Event → Bool
+is_request (event.Submit ask key) = true
+is_request (event.Heal cause ask) = true
+is_request _ = false
 
 -- another one is in the way
 abbrev pub is_executing : Reply → Bool
@@ -93,7 +118,7 @@ is_executing _ = false
 
 -- only a request meets one that is being carried out
 abbrev pub OnlyRequestsMeetExecution : Type 0
-OnlyRequestsMeetExecution = (file : Meaning) (s : Core) (e : Event) → is_executing (reply_of file s e) ≡ true → is_submit e ≡ true
+OnlyRequestsMeetExecution = (file : Meaning) (s : Core) (e : Event) → is_executing (reply_of file s e) ≡ true → is_request e ≡ true
 
 -- where nothing stands in the way of a request, no task is unfinished and no plan is being made that is to be carried out
 abbrev pub ExecutingIsExact : Type 0

@@ -13,6 +13,7 @@ use Rattle.core_terms.specs.Input.{IsInput}
 use Rattle.core_terms.specs.History.{IsLegal, AreLegal, state_after}
 use Rattle.core_terms.specs.Jobs.{is_done_at_once, user_task_at}
 use Rattle.core_terms.specs.Works.{moved}
+use Rattle.core_terms.specs.Submits.{MayChange}
 use Rattle.core_terms.specs.Plans.{MayPlan, holder_of}
 use Rattle.core_terms.specs.Step.{next}
 use Rattle.core_terms.specs.Sound.{AreTasks, AreTickets, IsExecOf, IsSound}
@@ -27,9 +28,11 @@ MovesKeepTasks = (d : Desk) (e : Event) → (IsLaunch e → ⊥) → IsValid d.e
 abbrev pub OpeningHasTasks : Type 0
 OpeningHasTasks = (file : Meaning) → AreTasks (opening_desk file)
 
--- a plan that is taken and is to be carried out can be launched
+-- a plan that is taken and is to be carried out can be launched, and so can a change of the replication factor
 abbrev pub IsLaunchable : Meaning → Core → CoreEvent → Type 0
 IsLaunchable file s (event.Planned ticket plan) = MayPlan (moment_of file s).cluster s.desk ticket plan
+IsLaunchable file s (event.Submit ask None) = MayChange (moment_of file s) s.desk ask
+IsLaunchable file s (event.Heal cause ask) = MayChange (moment_of file s) s.desk ask
 IsLaunchable file s _ = Unit {0}
 
 -- each event keeps what holds of the user tasks

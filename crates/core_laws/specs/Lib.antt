@@ -2,4 +2,5 @@ pub mod Laws
 pub mod Events
 pub mod Books
 pub mod Reported
+pub mod Changes
 pub mod Alone

@@ -21,7 +21,7 @@ abbrev pub is_left : Reply → Bool
 is_left (reply.Left left) = true
 is_left _ = false
 
--- a plan begins an execution
+-- an execution begins
 abbrev pub begins : Core → Core → Bool
 begins s t = not (any_unfinished s.desk.exec.tasks) && any_unfinished t.desk.exec.tasks
 
@@ -29,6 +29,8 @@ begins s t = not (any_unfinished s.desk.exec.tasks) && any_unfinished t.desk.exe
 abbrev pub reported : Meaning → Core → Event → List ReceiptView → List ReceiptView
 reported file s (event.Copied receipt) told = if is_left (reply_of file s (event.Copied receipt)) then told ++ receipt ∷ [] else told
 reported file s (event.Planned ticket plan) told = if begins s (next file s (event.Planned ticket plan)) then [] else told
+reported file s (event.Submit ask key) told = if begins s (next file s (event.Submit ask key)) then [] else told
+reported file s (event.Heal cause ask) told = if begins s (next file s (event.Heal cause ask)) then [] else told
 reported file s _ told = told
 
 -- so after events, one after another

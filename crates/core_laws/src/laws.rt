@@ -1,7 +1,8 @@
 // Laws of the core, each the contract of a function that does nothing.
 ghost use Rattle.core_laws.specs.Alone.{IdleIsDone, PlannedIsLess, TakenWorkIsOut, WorkedIsLess};
 ghost use Rattle.core_laws.specs.Books.{AdminFollows, EntriesGiveOneEach, ProblemsBelong, RoomIsKept};
-ghost use Rattle.core_laws.specs.Events.{ClosingWasAsked, EndedWorkIsLess, EventsMoveExecutor, ExecutingIsExact, HistoriesKeepCaps, HistoriesShowLists, OnlyPlansRaiseWork, OnlyRequestsMeetExecution, OthersRaiseNone, PlansCanBeLaunched, RefusalsKeepState, StartsKeepCapsInForce, WorkIsThere};
+ghost use Rattle.core_laws.specs.Changes.{ChangedListsCome};
+ghost use Rattle.core_laws.specs.Events.{ChangesCanBeLaunched, ClosingWasAsked, EndedWorkIsLess, EventsMoveExecutor, ExecutingIsExact, HistoriesKeepCaps, HistoriesShowLists, OnlyLaunchesRaiseWork, OnlyRequestsMeetExecution, OthersRaiseNone, PlansCanBeLaunched, RefusalsKeepState, StartsKeepCapsInForce, WorkIsThere};
 ghost use Rattle.core_laws.specs.Reported.{CopiesAreReported};
 ghost use Rattle.core_laws.specs.Laws.{EachEventKeeps, EventsKeepTasks, EventsKeepTickets, EventsKeepValid, HistoriesAreSound, MovesKeepTasks, OpeningHasTasks, OpeningIsSound, PlansMeetNoExecution, SettledListsBelong};
 
@@ -36,22 +37,24 @@ pub fn every_history()
     ensures copies { CopiesAreReported }
 {}
 
-/// What one event does, in any such state: a plan that is to be carried out can be launched;
-/// nothing else launches, and each event does to the executor what one of its own events does, or
-/// nothing. So what it starts keeps the caps in force, and nothing else raises a number of tasks in
-/// flight; only a plan raises the work that is left, and the four events that end a lease lower it;
-/// where a task is unfinished and no lease is out, there is work; and a refused event changes
-/// nothing. Only a request is answered that another is in the way, exactly where a task is
-/// unfinished or a plan is made to be carried out.
+/// What one event does, in any such state: a plan that is to be carried out can be launched, and so
+/// can a change of the replication factor; nothing else launches, and each event does to the
+/// executor what the executor's event of its name does, or nothing. So what it starts keeps the
+/// caps in force, and nothing else raises a number of tasks in flight; only a launch raises the
+/// work that is left, and the four events that end a lease lower it; where a task is unfinished and
+/// no lease is out, there is work; and a refused event changes nothing. Only a request is answered
+/// that another is in the way, exactly where a task is unfinished or a plan is made to be carried
+/// out.
 pub fn every_event()
     // What an event does to the executor.
     ensures launches { PlansCanBeLaunched }
+    ensures changes { ChangesCanBeLaunched }
     ensures moves { EventsMoveExecutor }
     // What it starts keeps the caps in force, and nothing else raises a number in flight.
     ensures starts { StartsKeepCapsInForce }
     ensures others { OthersRaiseNone }
     // How the work that is left rises and falls.
-    ensures work { OnlyPlansRaiseWork }
+    ensures work { OnlyLaunchesRaiseWork }
     ensures less { EndedWorkIsLess }
     ensures there { WorkIsThere }
     // What a refusal keeps, and when a request finds another in the way.
@@ -80,4 +83,12 @@ pub fn every_round()
     ensures worked { WorkedIsLess }
     ensures planned { PlannedIsLess }
     ensures idle { IdleIsDone }
+{}
+
+/// What becomes of a request for another replication factor that is taken and is to be carried out:
+/// where no copy fails, nobody stops it and no broker dies, the lists are those that it asks for in
+/// the first state in which no task is unfinished, and each list of a topic that it names has the
+/// length that it asks for.
+pub fn every_change()
+    ensures { ChangedListsCome }
 {}

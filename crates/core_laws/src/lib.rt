@@ -3,4 +3,4 @@
 
 mod laws;
 
-pub use laws::{every_book, every_event, every_history, every_round};
+pub use laws::{every_book, every_change, every_event, every_history, every_round};

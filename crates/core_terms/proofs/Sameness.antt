@@ -21,7 +21,7 @@ use Rattle.goal_set.specs.declared.kinds.GoalKind.{GoalKind}
 use Rattle.goal_set.specs.declared.kinds.GoalKind.TheVariants as kind
 use Rattle.user_tasks.specs.declared.ask.Op.{Op}
 use Rattle.user_tasks.specs.declared.ask.Op.TheVariants as op
-use Rattle.user_tasks.specs.declared.ask.Ask.{Ask}
+use Rattle.user_tasks.specs.Asks.{AskView}
 use Rattle.core_terms.specs.Problem.{ProblemView}
 use Rattle.core_terms.specs.Same.{SamenessIsEquality, same_name, state_number, same_broker, same_loads, same_part, same_ratio, same_leaders, same_options, same_cluster, same_lists, same_goal, same_goals, same_problem, op_number, same_ask}
 
@@ -72,8 +72,8 @@ the_Cluster x0 x1 x2 = record { brokers = x0; parts = x1; options = x2 }
 abbrev the_ProblemView : Cluster → Lists → List GoalKind → ProblemView
 the_ProblemView x0 x1 x2 = record { case = x0; start = x1; goals = x2 }
 
-abbrev the_Ask : Op → List ℕ → List (List ℕ) → Bool → List (List ℕ) → Bool → Ask
-the_Ask x0 x1 x2 x3 x4 x5 = record { op = x0; brokers = x1; goals = x2; skip = x3; excluded = x4; dryrun = x5 }
+abbrev the_Ask : Op → List ℕ → List (List ℕ) → Bool → List (List ℕ) → Bool → List (List ℕ) → ℕ → AskView
+the_Ask x0 x1 x2 x3 x4 x5 x6 x7 = record { op = x0; brokers = x1; goals = x2; skip = x3; excluded = x4; dryrun = x5; topics = x6; factor = x7 }
 
 -- a numbering, by which each is found again
 by_number : {X Y : Type 0} (number : X → Y) (found : Y → Option X) → ((x : X) → found (number x) ≡ Some x) → (x y : X) → number x ≡ number y → x ≡ y
@@ -215,7 +215,8 @@ op_of zero = Some op.Proposals
 op_of (suc zero) = Some op.Rebalance
 op_of (suc (suc zero)) = Some op.AddBroker
 op_of (suc (suc (suc zero))) = Some op.RemoveBroker
-op_of (suc (suc (suc (suc n)))) = Some op.DemoteBroker
+op_of (suc (suc (suc (suc zero)))) = Some op.DemoteBroker
+op_of (suc (suc (suc (suc (suc n))))) = Some op.TopicConfiguration
 
 op_found : (o : Op) → op_of (op_number o) ≡ Some o
 unfolding op_of
@@ -224,20 +225,22 @@ op_found op.Rebalance = refl
 op_found op.AddBroker = refl
 op_found op.RemoveBroker = refl
 op_found op.DemoteBroker = refl
+op_found op.TopicConfiguration = refl
 
 ops : (a b : Op) → Decides (op_number a == op_number b) (a ≡ b)
 ops a b = as_well (op_number a == op_number b) (Decides-eqb (op_number a) (op_number b)) (by_number op_number op_of op_found a b) (ap op_number)
 
-asks : (a b : Ask) → Decides (same_ask a b) (a ≡ b)
+asks : (a b : AskView) → Decides (same_ask a b) (a ≡ b)
 unfolding same_ask
 asks a b = as_well (same_ask a b)
     (Decides-and _ _ (ops a.op b.op) (Decides-and _ _ (bytes_eq-Decides a.brokers b.brokers) (Decides-and _ _ (all bytes_eq bytes_eq-Decides a.goals b.goals)
-    (Decides-and _ _ (booleans_Decides a.skip b.skip) (Decides-and _ _ (all bytes_eq bytes_eq-Decides a.excluded b.excluded) (booleans_Decides a.dryrun b.dryrun))))))
-    (λ h. made a b h.0 h.1.0 h.1.1.0 h.1.1.1.0 h.1.1.1.1.0 h.1.1.1.1.1)
-    (λ e. (ap (λ (x : Ask). x.op) e, (ap (λ (x : Ask). x.brokers) e, (ap (λ (x : Ask). x.goals) e, (ap (λ (x : Ask). x.skip) e, (ap (λ (x : Ask). x.excluded) e, ap (λ (x : Ask). x.dryrun) e))))))
+    (Decides-and _ _ (booleans_Decides a.skip b.skip) (Decides-and _ _ (all bytes_eq bytes_eq-Decides a.excluded b.excluded) (Decides-and _ _ (booleans_Decides a.dryrun b.dryrun)
+    (Decides-and _ _ (all bytes_eq bytes_eq-Decides a.topics b.topics) (Decides-eqb a.factor b.factor))))))))
+    (λ h. made a b h.0 h.1.0 h.1.1.0 h.1.1.1.0 h.1.1.1.1.0 h.1.1.1.1.1.0 h.1.1.1.1.1.1.0 h.1.1.1.1.1.1.1)
+    (λ e. (ap (λ (x : AskView). x.op) e, (ap (λ (x : AskView). x.brokers) e, (ap (λ (x : AskView). x.goals) e, (ap (λ (x : AskView). x.skip) e, (ap (λ (x : AskView). x.excluded) e, (ap (λ (x : AskView). x.dryrun) e, (ap (λ (x : AskView). x.topics) e, ap (λ (x : AskView). x.factor) e))))))))
   where
-    made : (a b : Ask) → a.op ≡ b.op → a.brokers ≡ b.brokers → a.goals ≡ b.goals → a.skip ≡ b.skip → a.excluded ≡ b.excluded → a.dryrun ≡ b.dryrun → a ≡ b
-    made a b e f g h i j = same6 (λ x0 x1 x2 x3 x4 x5. the_Ask x0 x1 x2 x3 x4 x5) e f g h i j
+    made : (a b : AskView) → a.op ≡ b.op → a.brokers ≡ b.brokers → a.goals ≡ b.goals → a.skip ≡ b.skip → a.excluded ≡ b.excluded → a.dryrun ≡ b.dryrun → a.topics ≡ b.topics → a.factor ≡ b.factor → a ≡ b
+    made a b e f g h i j k l = same8 (λ x0 x1 x2 x3 x4 x5 x6 x7. the_Ask x0 x1 x2 x3 x4 x5 x6 x7) e f g h i j k l
 
 pub sameness_is_equality : SamenessIsEquality
 sameness_is_equality = record { clusters = clusters; lists = lists; goals = goals; problems = problems; asks = asks }

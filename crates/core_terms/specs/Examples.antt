@@ -14,8 +14,7 @@ use Rattle.exec_terms.specs.Machine.{adding, lists_now}
 use Rattle.exec_terms.specs.declared.phase.Phase.TheVariants as phase
 use Rattle.exec_terms.specs.declared.work.Work.{Work}
 use Rattle.exec_terms.specs.declared.work.Work.TheVariants as work
-use Rattle.user_tasks.specs.declared.ask.Ask.{Ask}
-use Rattle.user_tasks.specs.declared.ask.Op.{Op}
+use Rattle.user_tasks.specs.Asks.{AskView}
 use Rattle.user_tasks.specs.declared.ask.Op.TheVariants as op
 use Rattle.user_tasks.specs.declared.table.Status.TheVariants as status
 use Rattle.core_terms.specs.Asked.{case_of}
@@ -68,18 +67,14 @@ two_brokers = file_of (broker 0 ∷ broker 1 ∷ [])
 abbrev pub three_brokers : Meaning
 three_brokers = file_of (broker 0 ∷ broker 1 ∷ broker 2 ∷ [])
 
--- a request that names brokers, and all goals
-abbrev ask : Op → List ℕ → Bool → Ask
-ask what brokers dry = record { op = what; brokers = brokers; goals = []; skip = false; excluded = []; dryrun = dry }
-
 -- that broker 0 is removed
-abbrev removal : Ask
-removal = ask op.RemoveBroker (0 ∷ []) false
+abbrev removal : AskView
+removal = record { op = op.RemoveBroker; brokers = 0 ∷ []; goals = []; skip = false; excluded = []; dryrun = false; topics = []; factor = 0 }
 
-abbrev balancing : Bool → Ask
-balancing dry = ask op.Rebalance [] dry
+abbrev balancing : Bool → AskView
+balancing dry = record { op = op.Rebalance; brokers = []; goals = []; skip = false; excluded = []; dryrun = dry; topics = []; factor = 0 }
 
-abbrev submit : Ask → Event
+abbrev submit : AskView → Event
 submit a = event.Submit a None
 
 -- what a planner is given for the removal in a state

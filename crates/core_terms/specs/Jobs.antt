@@ -5,7 +5,7 @@ use Rattle.plan_terms.specs.declared.lists.Proposal.{Proposal}
 use Rattle.exec_terms.specs.Machine.{any_unfinished, after_launch, first_unfinished}
 use Rattle.exec_terms.specs.Runs.{CanLaunch}
 use Rattle.user_tasks.specs.Ids.{id_of}
-use Rattle.user_tasks.specs.declared.ask.Ask.{Ask}
+use Rattle.user_tasks.specs.Asks.{AskView}
 use Rattle.user_tasks.specs.declared.ask.Op.TheVariants as op
 use Rattle.user_tasks.specs.declared.table.Status.{Status}
 use Rattle.user_tasks.specs.declared.table.Status.TheVariants as status
@@ -16,7 +16,7 @@ use Rattle.core_terms.specs.declared.jobs.Job.{Job}
 
 -- a reading past the end of the user tasks gives it
 abbrev pub no_user_task : UserTask
-no_user_task = record { ask = record { op = op.Proposals; brokers = []; goals = []; skip = false; excluded = []; dryrun = true }; status = status.Completed }
+no_user_task = record { ask = record { op = op.Proposals; brokers = []; goals = []; skip = false; excluded = []; dryrun = true; topics = []; factor = 0 }; status = status.Completed }
 
 -- the user task at place i, which has the number i + 1
 abbrev pub user_task_at : List UserTask → ℕ → UserTask
@@ -49,11 +49,11 @@ abbrev pub executing : Desk → Option ℕ
 executing s = if any_unfinished s.exec.tasks then position (λ t. is_in_execution t.status) s.tasks else position plans_execution s.tasks
 
 -- a job that waits for a planner
-abbrev pub new_job : Ask → Job
+abbrev pub new_job : AskView → Job
 new_job ask = record { goals = goals_of ask; ticket = None; proposals = []; broken = None; aborted = 0; dead = 0 }
 
 -- one user task more, which is active
-abbrev pub admitted : Desk → Ask → Desk
+abbrev pub admitted : Desk → AskView → Desk
 admitted s ask = record s { tasks = s.tasks ++ record { ask = ask; status = status.Active } ∷ []; jobs = s.jobs ++ new_job ask ∷ [] }
 
 -- another job at place i
@@ -72,6 +72,10 @@ planned_job j ps = record j { ticket = None; proposals = ps }
 abbrev pub is_done_at_once : UserTask → List Proposal → Bool
 is_done_at_once t [] = true
 is_done_at_once t (p ∷ ps) = is_dry t.ask
+
+-- how far a user task then is
+abbrev pub status_at_once : UserTask → List Proposal → Status
+status_at_once t ps = if is_done_at_once t ps then status.Completed else status.InExecution
 
 -- the plan of the job at place i has these proposals: they are launched, where there are any and it is no dry run
 abbrev pub with_plan : Desk → ℕ → List Proposal → Desk

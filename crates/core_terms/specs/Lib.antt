@@ -1,5 +1,6 @@
 pub mod Caps
 pub mod Problem
+pub mod Looked
 pub mod Input
 pub mod Same
 pub mod Asked
@@ -9,6 +10,7 @@ pub mod Submits
 pub mod Plans
 pub mod Works
 pub mod Shows
+pub mod Looks
 pub mod Step
 pub mod History
 pub mod Faults

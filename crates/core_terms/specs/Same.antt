@@ -15,7 +15,7 @@ use Rattle.goal_set.specs.Kinds.{name_of}
 use Rattle.goal_set.specs.declared.kinds.GoalKind.{GoalKind}
 use Rattle.user_tasks.specs.declared.ask.Op.{Op}
 use Rattle.user_tasks.specs.declared.ask.Op.TheVariants as op
-use Rattle.user_tasks.specs.declared.ask.Ask.{Ask}
+use Rattle.user_tasks.specs.Asks.{AskView}
 use Rattle.core_terms.specs.Problem.{ProblemView}
 
 -- two texts that may be absent
@@ -79,12 +79,14 @@ op_number op.Rebalance = 1
 op_number op.AddBroker = 2
 op_number op.RemoveBroker = 3
 op_number op.DemoteBroker = 4
+op_number op.TopicConfiguration = 5
 
 -- two requests
-unfoldable pub same_ask : Ask → Ask → Bool
+unfoldable pub same_ask : AskView → AskView → Bool
 same_ask a b =
     (op_number a.op == op_number b.op) && (bytes_eq a.brokers b.brokers && (pointwise bytes_eq a.goals b.goals
-    && (beq a.skip b.skip && (pointwise bytes_eq a.excluded b.excluded && beq a.dryrun b.dryrun))))
+    && (beq a.skip b.skip && (pointwise bytes_eq a.excluded b.excluded && (beq a.dryrun b.dryrun
+    && (pointwise bytes_eq a.topics b.topics && (a.factor == b.factor)))))))
 
 -- the tests are true exactly where the two are equal
 pub record SamenessIsEquality : Type 0 where
@@ -92,4 +94,4 @@ pub record SamenessIsEquality : Type 0 where
   pub lists : (a b : Lists) → Decides (same_lists a b) (a ≡ b)
   pub goals : (a b : List GoalKind) → Decides (same_goals a b) (a ≡ b)
   pub problems : (a b : ProblemView) → Decides (same_problem a b) (a ≡ b)
-  pub asks : (a b : Ask) → Decides (same_ask a b) (a ≡ b)
+  pub asks : (a b : AskView) → Decides (same_ask a b) (a ≡ b)

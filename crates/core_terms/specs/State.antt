@@ -23,10 +23,11 @@ pub record Desk : Type 0 where
   pub tickets : ℕ
   pub closing : Bool
 
--- the state of the core: the desk, and the samples that were accepted
+-- the state of the core: the desk, the samples that were accepted, and brokers that were found lost, each with the moment of that
 pub record Core : Type 0 where
   pub desk : Desk
   pub samples : List Sample
+  pub since : List (ℕ × ℕ)
 
 -- the desk of a cluster file when it is opened: its brokers, caps and lists, no task and no job
 unfoldable pub opening_desk : Meaning → Desk
@@ -38,9 +39,9 @@ opening_desk file = record {
   closing = false;
 }
 
--- the opening state of a cluster file: its desk, and its samples added in order
+-- the opening state of a cluster file: its desk, its samples added in order, and no broker found lost
 abbrev pub opening_of : Meaning → Core
-opening_of file = record { desk = opening_desk file; samples = accepted file.rules file.samples }
+opening_of file = record { desk = opening_desk file; samples = accepted file.rules file.samples; since = [] }
 
 -- the state of a broker: it is lost where it has died
 abbrev pub state_now : List Host → Broker → BrokerState

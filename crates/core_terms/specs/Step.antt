@@ -1,10 +1,12 @@
 -- The step of the core: for each event the reply, and the state afterwards.
+use Rattle.std.specs.Prelude.{None}
 use Rattle.cluster_json.specs.File.{Meaning}
 use Rattle.core_terms.specs.State.{Desk, Core, moment_of}
 use Rattle.core_terms.specs.Submits.{reply_submit, after_submit}
 use Rattle.core_terms.specs.Plans.{first_waiting, reply_take_job, ticketed, holder_of, reply_planned, planned, reply_refused, refused, reply_plan_back, planned_back}
 use Rattle.core_terms.specs.Works.{reply_stop, stopped, reply_kill, killed, reply_sample, sampled, reply_caps, with_caps, reply_take, taken_by, reply_copied, copied, reply_copy_failed, copy_failed, reply_commit, committed_by, reply_cancel, cancelled_by, reply_give_back, given_back, closed}
 use Rattle.core_terms.specs.Shows.{shown_of}
+use Rattle.core_terms.specs.Looks.{reply_look, since_after}
 use Rattle.core_terms.specs.declared.events.Event.{Event}
 use Rattle.core_terms.specs.declared.events.Event.TheVariants as event
 use Rattle.core_terms.specs.declared.replies.Reply.{Reply}
@@ -28,6 +30,8 @@ reply_of file s (event.CopyFailed lease) = reply_copy_failed s.desk lease
 reply_of file s (event.Commit lease) = reply_commit s.desk lease
 reply_of file s (event.Cancel lease) = reply_cancel s.desk lease
 reply_of file s (event.GiveBack lease) = reply_give_back s.desk lease
+reply_of file s (event.Look now) = reply_look file s now
+reply_of file s (event.Heal cause ask) = reply_submit file (moment_of file s) s.desk ask None
 reply_of file s event.Close = reply.Closed
 
 -- the state with another desk
@@ -52,6 +56,8 @@ next file s (event.CopyFailed lease) = with_desk s (copy_failed s.desk lease)
 next file s (event.Commit lease) = with_desk s (committed_by s.desk lease)
 next file s (event.Cancel lease) = with_desk s (cancelled_by s.desk lease)
 next file s (event.GiveBack lease) = with_desk s (given_back s.desk lease)
+next file s (event.Look now) = record s { since = since_after file s now }
+next file s (event.Heal cause ask) = with_desk s (after_submit file (moment_of file s) s.desk ask None)
 next file s event.Close = with_desk s (closed s.desk)
 
 -- both: the state after it, and the reply

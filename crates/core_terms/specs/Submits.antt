@@ -1,21 +1,25 @@
 -- A request for a plan: the user task that it asks after, or the first reason why it is none, or a new one.
-use Rattle.std.specs.Prelude.{ℕ, ◌*◌, Bool, not, nat_lt, nat_le, List, length, map, find, get_or, bytes_eq, [], false, Option, Some, None, option_map, if◌then◌else◌}
+use Rattle.std.specs.Prelude.{◌≡◌, ℕ, ◌*◌, Bool, true, not, nat_lt, nat_le, List, length, map, find, get_or, bytes_eq, [], false, Option, Some, None, option_map, if◌then◌else◌}
 use Rattle.std.specs.List.{position, range_with_len}
 use Rattle.std.specs.Option.{option_or}
-use Rattle.plan_terms.specs.Cluster.{is_known}
+use Rattle.plan_terms.specs.Change.{proposals}
+use Rattle.plan_terms.specs.Cluster.{Lists, is_known}
 use Rattle.plan_terms.specs.declared.cluster.Part.{Part}
 use Rattle.plan_terms.specs.declared.lists.Proposal.{Proposal}
 use Rattle.cluster_json.specs.File.{Meaning}
 use Rattle.cluster_json.specs.Loads.{no_loads}
+use Rattle.exec_terms.specs.Settled.{settled_lists}
+use Rattle.factor_change.specs.Refused.{first_absent, first_short}
+use Rattle.factor_change.specs.Resized.{resized}
 use Rattle.user_tasks.specs.Tasks.{open_count}
-use Rattle.user_tasks.specs.declared.ask.Ask.{Ask}
+use Rattle.user_tasks.specs.Asks.{AskView, changes_factor}
 use Rattle.user_tasks.specs.declared.table.Status.{Status}
 use Rattle.user_tasks.specs.declared.table.Status.TheVariants as status
 use Rattle.user_tasks.specs.declared.table.UserTask.{UserTask}
 use Rattle.core_terms.specs.Same.{same_ask}
 use Rattle.core_terms.specs.Asked.{is_dry, goals_fault}
 use Rattle.core_terms.specs.State.{Desk, Moment, job_at}
-use Rattle.core_terms.specs.Jobs.{user_task_at, id_at, executing, admitted}
+use Rattle.core_terms.specs.Jobs.{user_task_at, id_at, executing, admitted, with_plan, MayLaunch}
 use Rattle.core_terms.specs.declared.jobs.Broken.{Broken}
 use Rattle.core_terms.specs.declared.jobs.Job.{Job}
 use Rattle.core_terms.specs.declared.replies.Named.{Named}
@@ -53,7 +57,7 @@ abbrev pub told_at : List Part → Desk → List ℕ → ℕ → Reply
 told_at parts s id i = reply.Task id (user_task_at s.tasks i).status (outcome_of parts (user_task_at s.tasks i).status (job_at s.jobs i))
 
 -- the user task at a place, if it was asked the same
-abbrev pub found_at : List Part → Desk → List ℕ → Ask → Option ℕ → Reply
+abbrev pub found_at : List Part → Desk → List ℕ → AskView → Option ℕ → Reply
 found_at parts s id ask None = reply.NoSuchTask id
 found_at parts s id ask (Some i) = if same_ask (user_task_at s.tasks i).ask ask then told_at parts s id i else reply.OtherRequest id
 
@@ -70,15 +74,15 @@ abbrev pub first_unknown : Meaning → List ℕ → Option ℕ
 first_unknown file brokers = find (λ b. not (is_known file.cluster b)) brokers
 
 -- names that mean nothing: of brokers, or of goals
-abbrev pub names_refusal : Meaning → Ask → Option Reply
+abbrev pub names_refusal : Meaning → AskView → Option Reply
 names_refusal file ask = option_or (option_map reply.NoSuchBroker (first_unknown file ask.brokers)) (option_map reply.BadGoals (goals_fault ask))
 
 -- the user task that stands in the way of a request that is to be carried out
-abbrev pub first_executing : Desk → Ask → Option ℕ
+abbrev pub first_executing : Desk → AskView → Option ℕ
 first_executing s ask = if is_dry ask then None else executing s
 
 -- user tasks that are open: one that stands in the way, or as many as there may be
-abbrev pub open_refusal : Desk → Ask → Option Reply
+abbrev pub open_refusal : Desk → AskView → Option Reply
 open_refusal s ask = option_or (option_map (λ i. reply.Executing (id_at i)) (first_executing s ask)) (refused_if (nat_le 16 (open_count s.tasks)) reply.TooManyActive)
 
 -- so many partitions with loads are too few
@@ -90,7 +94,7 @@ abbrev pub windows_refusal : Meaning → Moment → Option Reply
 windows_refusal file now = refused_if (lacks_windows file now.valid) (reply.NotEnoughWindows now.valid (length file.cluster.parts))
 
 -- why a request is not taken, the first that holds
-unfoldable pub refusal_of : Meaning → Moment → Desk → Ask → Option Reply
+unfoldable pub refusal_of : Meaning → Moment → Desk → AskView → Option Reply
 refusal_of file now s ask = option_or (closing_refusal s) (option_or (names_refusal file ask) (option_or (open_refusal s ask) (windows_refusal file now)))
 
 -- the refusal, or the id of the new user task
@@ -99,15 +103,57 @@ or_accepted s (Some r) = r
 or_accepted s None = reply.Accepted (id_at (length s.tasks))
 
 -- nothing changes where it is refused
-abbrev pub unless_refused : Desk → Ask → Option Reply → Desk
+abbrev pub unless_refused : Desk → AskView → Option Reply → Desk
 unless_refused s ask (Some r) = s
 unless_refused s ask None = admitted s ask
 
--- a request: with an id it asks after that user task, without it is a new one
-abbrev pub reply_submit : Meaning → Moment → Desk → Ask → Option (List ℕ) → Reply
-reply_submit file now s ask (Some id) = found_at file.cluster.parts s id ask (place_of id s.tasks)
-reply_submit file now s ask None = or_accepted s (refusal_of file now s ask)
+-- the lists that a change of the replication factor makes of the settled ones
+abbrev pub lists_asked : Moment → Desk → AskView → Lists
+lists_asked now s ask = resized now.cluster ask.topics ask.factor (settled_lists s.exec)
 
-abbrev pub after_submit : Meaning → Moment → Desk → Ask → Option (List ℕ) → Desk
+-- what changes by it
+abbrev pub changes_asked : Moment → Desk → AskView → List Proposal
+changes_asked now s ask = proposals (settled_lists s.exec) (lists_asked now s ask)
+
+-- a topic has no partition; or brokers are too few for a list
+abbrev pub resize_refusal : Moment → Desk → AskView → Option Reply
+resize_refusal now s ask = option_or (option_map reply.NoSuchTopic (first_absent now.cluster ask.topics)) (option_map reply.TooFewBrokers (first_short now.cluster ask.topics ask.factor (settled_lists s.exec)))
+
+-- why a change of the replication factor is not taken, the first that holds
+unfoldable pub change_refusal : Moment → Desk → AskView → Option Reply
+change_refusal now s ask = option_or (closing_refusal s) (option_or (open_refusal s ask) (resize_refusal now s ask))
+
+-- the request is a new user task, whose plan has these proposals
+abbrev pub changed_by : Desk → AskView → List Proposal → Desk
+changed_by s ask ps = with_plan (admitted s ask) (length s.tasks) ps
+
+-- the refusal, or the new user task and what came of it
+abbrev pub or_changed : List Part → Desk → AskView → List Proposal → Option Reply → Reply
+or_changed parts s ask ps (Some r) = r
+or_changed parts s ask ps None = told_at parts (changed_by s ask ps) (id_at (length s.tasks)) (length s.tasks)
+
+abbrev pub unless_unchanged : Desk → AskView → List Proposal → Option Reply → Desk
+unless_unchanged s ask ps (Some r) = s
+unless_unchanged s ask ps None = changed_by s ask ps
+
+-- a new request: a change of the replication factor is planned at once, any other waits for its plan
+abbrev pub reply_new : Meaning → Moment → Desk → AskView → Bool → Reply
+reply_new file now s ask true = or_changed file.cluster.parts s ask (changes_asked now s ask) (change_refusal now s ask)
+reply_new file now s ask false = or_accepted s (refusal_of file now s ask)
+
+abbrev pub after_new : Meaning → Moment → Desk → AskView → Bool → Desk
+after_new file now s ask true = unless_unchanged s ask (changes_asked now s ask) (change_refusal now s ask)
+after_new file now s ask false = unless_refused s ask (refusal_of file now s ask)
+
+-- a request: with an id it asks after that user task, without it is a new one
+abbrev pub reply_submit : Meaning → Moment → Desk → AskView → Option (List ℕ) → Reply
+reply_submit file now s ask (Some id) = found_at file.cluster.parts s id ask (place_of id s.tasks)
+reply_submit file now s ask None = reply_new file now s ask (changes_factor ask)
+
+abbrev pub after_submit : Meaning → Moment → Desk → AskView → Option (List ℕ) → Desk
 after_submit file now s ask (Some id) = s
-after_submit file now s ask None = unless_refused s ask (refusal_of file now s ask)
+after_submit file now s ask None = after_new file now s ask (changes_factor ask)
+
+-- where a change of the replication factor is taken and is to be carried out, no task is unfinished and it can be launched
+abbrev pub MayChange : Moment → Desk → AskView → Type 0
+MayChange now s ask = changes_factor ask ≡ true → change_refusal now s ask ≡ None → MayLaunch (admitted s ask) (length s.tasks) (changes_asked now s ask)

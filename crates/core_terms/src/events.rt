@@ -1,7 +1,7 @@
 // What the core is asked.
 use crate::caps::CapChange;
 use cluster_gate::Receipt;
-use goal_set::{Failure, Plan};
+use goal_set::{Cause, Failure, Plan};
 use plan_terms::{Measured, Topic};
 use user_tasks::{Ask, Query};
 use uuid::Uuid;
@@ -41,6 +41,10 @@ pub enum Event {
     Cancel(u64),
     /// A lease is given back.
     GiveBack(u64),
+    /// The moment in milliseconds: which brokers are lost since when?
+    Look(u64),
+    /// A request that the anomaly detector makes, and why.
+    Heal(Cause, Ask),
     /// No more requests are taken.
     Close,
 }

@@ -1,4 +1,5 @@
 // What the core answers.
+use crate::looks::Looked;
 use crate::problem::Problem;
 use crate::shows::Shown;
 use exec_terms::{Given, Killed, Phase, Stopped};
@@ -67,6 +68,10 @@ pub enum Reply {
     TooManyActive,
     /// So many partitions have loads, of so many, which is too few.
     NotEnoughWindows(u32, u32),
+    /// The first of the topics that has no partition.
+    NoSuchTopic(Topic),
+    /// How many members the first list that is to grow may have, which are too few.
+    TooFewBrokers(u32),
     /// The request is the user task of the id.
     Accepted(Uuid),
     /// Each active job has a ticket. Whether Close was asked before.
@@ -101,6 +106,8 @@ pub enum Reply {
     Sampled,
     /// The caps in force.
     CapsSet(Caps),
+    /// Which brokers are lost since when, the present cluster, and its settled lists.
+    Looked(Looked),
     /// What was asked to be shown.
     Shown(Shown),
     /// Work, under a lease.

@@ -80,6 +80,8 @@ pub fn ask(rt: &impl Abort, alloc: Global, op: Op, brokers: &[u32], dryrun: bool
         skip: false,
         excluded: ListOf::new(Vec::new(alloc)),
         dryrun,
+        topics: ListOf::new(Vec::new(alloc)),
+        factor: 1,
     };
     Event::Submit(ask, None)
 }

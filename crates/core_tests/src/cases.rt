@@ -37,6 +37,8 @@ fn removal(rt: &impl Abort, alloc: Global) -> Ask {
         skip: false,
         excluded: ListOf::new((vec![in alloc; topic]).expect(rt, "memory")),
         dryrun: false,
+        topics: ListOf::new(Vec::new(alloc)),
+        factor: 0,
     }
 }
 

@@ -40,6 +40,8 @@ fn ask(rt: &impl Abort, alloc: Global, op: Op, brokers: &[u32], goal: &str, topi
         skip: true,
         excluded: ListOf::new(topics.expect(rt, "memory")),
         dryrun: false,
+        topics: ListOf::new(Vec::new(alloc)),
+        factor: 1,
     }
 }
 

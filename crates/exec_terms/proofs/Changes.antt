@@ -1,5 +1,5 @@
 -- The proposals between two assignments.
-use Rattle.std.proofs.Common.{◌≡◌, ℕ, ◌+◌, ◌<◌, ◌≤◌, Bool, true, false, not, cond, List, [], ◌∷◌, ◌++◌, length, arith, refl, sym, ◌∙◌, zero, suc, inl, inr, append-nil}
+use Rattle.std.proofs.Common.{◌≡◌, ℕ, ◌+◌, ◌<◌, ◌≤◌, Bool, true, false, not, cond, List, [], ◌∷◌, ◌++◌, length, get_or, arith, refl, sym, ◌∙◌, zero, suc, inl, inr, append-nil}
 use Rattle.std.specs.Prelude.{◌==◌, Some}
 use Rattle.std.specs.List.{All, count_by, filter}
 use Rattle.std.proofs.lemmas.Bool.{cases_eq, eq-eqb, ne_eqb, true≢false}
@@ -25,6 +25,23 @@ module _ (before after : Lists) where
   pub proposals_all : (P : Proposal → Type 0) → ((p : ℕ) → p < length before → P (proposal_at before after p)) → All P (proposals before after)
   unfolding proposals
   proposals_all P h = All-filter is_change P (below (length before)) (below_all P (length before) h)
+
+  -- each proposal's lists differ
+  filter_passes : (qs : List Proposal) → All (λ q. is_change q ≡ true) (filter is_change qs)
+  filter_passes [] = All-nil (λ q. is_change q ≡ true)
+  filter_passes (q ∷ qs) = by (is_change q) refl (filter_passes qs) where
+    first : is_change q ≡ true → All (λ x. is_change x ≡ true) (filter is_change qs) → (k : ℕ) (d : Proposal) → k < length (q ∷ filter is_change qs) → is_change (get_or (q ∷ filter is_change qs) k d) ≡ true
+    first e h zero d l = e
+    first e h (suc k) d l = h k d (omega (arith, l))
+
+    by : (b : Bool) → is_change q ≡ b → All (λ x. is_change x ≡ true) (filter is_change qs) → All (λ x. is_change x ≡ true) (cond b (q ∷ filter is_change qs) (filter is_change qs))
+    by true e h = λ k d l. first e h k d l
+    by false e h = h
+
+  -- what holds of each partition's proposal where its lists differ holds of each proposal
+  pub proposals_changed : (P : Proposal → Type 0) → ((p : ℕ) → p < length before → is_change (proposal_at before after p) ≡ true → P (proposal_at before after p)) → All P (proposals before after)
+  unfolding proposals
+  proposals_changed P h = λ k d l. proposals_all (λ q. is_change q ≡ true → P q) h k d l (filter_passes (below (length before)) k d l)
 
   -- each proposal leads to the new list of its partition
   pub all_lead : All (λ q. q.after ≡ list_of after q.part) (proposals before after)

@@ -2,6 +2,7 @@
 #![tactic(auto)]
 
 mod any;
+mod cause;
 mod failure;
 mod kinds;
 mod list;
@@ -9,6 +10,7 @@ mod plan;
 mod trace;
 
 pub use any::{AnyGoal, goal_of, goals_of};
+pub use cause::Cause;
 pub use failure::Failure;
 pub use kinds::GoalKind;
 pub use list::{GoalFault, GoalList};

@@ -4,3 +4,4 @@ pub mod Fronts
 pub mod Closing
 pub mod Asked
 pub mod Live
+pub mod Heals

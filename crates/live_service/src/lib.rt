@@ -4,11 +4,13 @@
 
 mod crew;
 mod front;
+mod laws;
 mod link;
 mod links;
 mod live;
 
 pub use front::{Front, FrontEnd};
+pub use laws::workers_heal_nothing;
 pub use link::serve_link;
 pub use links::{Served, Service, Serving};
 pub use live::{Live, Unshared, run_live_service};

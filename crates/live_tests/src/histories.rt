@@ -4,7 +4,7 @@ use crate::links::{
     told,
 };
 use crate::services::{Outside, Over, Setting, run};
-use crate::texts::TWO;
+use crate::texts::{ACCEPTED, TWO};
 use live_service::FrontEnd;
 use rest_session::LinkEnd;
 use std::alloc::Global;
@@ -47,9 +47,12 @@ fn expect_merged<R: Abort>(rt: &R, replies: &str, one: &str, other: &str) {
     assert_eq!(rt; second, None);
 }
 
+// What two links ask.
 fn asked_by_both<R: Threads + Wait + Abort + Sync>(
     rt: &R,
     alloc: Global,
+    one: &str,
+    other: &str,
 ) -> Over<TestCopier, TestLink, TestListener> {
     let setting = Setting {
         text: TWO,
@@ -58,8 +61,8 @@ fn asked_by_both<R: Threads + Wait + Abort + Sync>(
         planners: 0,
         links: Some(2),
     };
-    let one = link_of(rt, alloc, ONE_ASKS, &[], &[]);
-    let other = link_of(rt, alloc, OTHER_ASKS, &[], &[]);
+    let one = link_of(rt, alloc, one, &[], &[]);
+    let other = link_of(rt, alloc, other, &[], &[]);
     let links = vec![in alloc; one, other].expect(rt, "memory");
     let outside = Outside {
         copiers: copiers_of(rt, alloc, 2),
@@ -75,7 +78,7 @@ fn asked_by_both<R: Threads + Wait + Abort + Sync>(
 fn two_links_make_one_history(rt: HostRuntime) {
     let alloc = rt.alloc();
     for _ in 0..20 {
-        let over = asked_by_both(&rt, alloc);
+        let over = asked_by_both(&rt, alloc, ONE_ASKS, OTHER_ASKS);
         assert_eq!(rt; over.end, FrontEnd::Accepted);
         let [one, other] = over.front.service.served.as_slice() else {
             panic!(rt; "two links");
@@ -84,5 +87,43 @@ fn two_links_make_one_history(rt: HostRuntime) {
         let (one, other) = (told(&one.link), told(&other.link));
         let replies = text(&rt, over.book.replies.as_slice());
         expect_merged(&rt, replies, text(&rt, one), text(&rt, other));
+    }
+}
+
+// A request for a plan, and how far its user task is.
+const SUBMIT: &str =
+    "POST /kafkacruisecontrol/remove_broker?brokerid=0 HTTP/1.1\r\n\r\nPOST /kafkacruisecontrol/remove_broker?brokerid=0 HTTP/1.1\r\nUser-Task-ID: 00000000-0000-8000-8000-000000000001\r\n\r\n";
+
+// How far that user task is, asked twice.
+const KEYED: &str =
+    "POST /kafkacruisecontrol/remove_broker?brokerid=0 HTTP/1.1\r\nUser-Task-ID: 00000000-0000-8000-8000-000000000001\r\n\r\nPOST /kafkacruisecontrol/remove_broker?brokerid=0 HTTP/1.1\r\nUser-Task-ID: 00000000-0000-8000-8000-000000000001\r\n\r\n";
+
+const UNKNOWN: &str =
+    "404 Not Found\r\nContent-Type: application/json\r\nContent-Length: 81\r\n\r\n{\"errorMessage\":\"no such task: 00000000-0000-8000-8000-000000000001\",\"version\":1}";
+
+// Two replies: the user task is unknown, unless it is known before, and once it is known it stays
+// so.
+fn expect_known<R: Abort>(rt: &R, replies: &str, before: bool) {
+    let accepted = ACCEPTED.split(HEAD).nth(1).expect(rt, "a reply");
+    let mut known = before;
+    assert_eq!(rt; replies.split(HEAD).count(), 3);
+    for reply in replies.split(HEAD).skip(1) {
+        known = known || reply == accepted;
+        assert_eq!(rt; reply, if known { accepted } else { UNKNOWN });
+    }
+}
+
+// Two links ask for one user task by its key at once: it is one.
+#[test]
+fn a_key_names_one_user_task_on_each_link(rt: HostRuntime) {
+    let alloc = rt.alloc();
+    for _ in 0..20 {
+        let over = asked_by_both(&rt, alloc, SUBMIT, KEYED);
+        let [one, other] = over.front.service.served.as_slice() else {
+            panic!(rt; "two links");
+        };
+        let (one, other) = (told(&one.link), told(&other.link));
+        expect_known(&rt, text(&rt, one), true);
+        expect_known(&rt, text(&rt, other), false);
     }
 }

@@ -54,6 +54,8 @@ fn removal<R: Abort>(rt: &R, alloc: Global) -> Ask {
         skip: false,
         excluded: ListOf::new(Vec::new(alloc)),
         dryrun: false,
+        topics: ListOf::new(Vec::new(alloc)),
+        factor: 0,
     }
 }
 

@@ -17,7 +17,7 @@ use Rattle.goal_set.specs.declared.kinds.GoalKind.{GoalKind}
 use Rattle.plan_terms.specs.Cluster.{Cluster, Lists}
 use Rattle.proposal_set.specs.Text.{assignment_text}
 use Rattle.request_runs.specs.Runs.{IsCarriedOut, IsGivenUp, IsRun, cluster_asked, without_share}
-use Rattle.user_tasks.specs.declared.ask.Ask.{Ask}
+use Rattle.user_tasks.specs.Asks.{AskView}
 use Rattle.quiet_commands.specs.Applied.{IsApplied}
 use Rattle.quiet_commands.specs.Ends.{IsFailureEnd}
 use Rattle.quiet_commands.specs.Input.{planned_for, loaded_cluster}
@@ -27,7 +27,7 @@ use Rattle.quiet_commands.specs.declared.ends.End.{End}
 use Rattle.quiet_commands.specs.declared.ends.End.TheVariants as end
 
 -- both name one cluster
-same_cluster : (ask : Ask) (m : Meaning) → (planned_for ask m).cluster ≡ cluster_asked ask m
+same_cluster : (ask : AskView) (m : Meaning) → (planned_for ask m).cluster ≡ cluster_asked ask m
 unfolding planned_for loaded_cluster
 same_cluster ask m = refl
 
@@ -49,7 +49,7 @@ failed_last f h =
     let r = some_last (kinds_of f.trace) (some_turn f h) in
     (r.0, r.2 ∙ ap (λ (k : GoalKind). r.0 ++ k ∷ []) (goal_is f r.1 (r.0, r.2)))
 
-module _ (m : Meaning) (ask : Ask) (book : BookView MemoryCluster) (run : IsRun (without_share m) ask book) where
+module _ (m : Meaning) (ask : AskView) (book : BookView MemoryCluster) (run : IsRun (without_share m) ask book) where
   -- the lists are written
   applied : (text : List ℕ) → IsCarriedOut (cluster_asked ask m) m.lists (goals_of ask) (state_of book).desk.exec → text ≡ assignment_text (cluster_asked ask m).parts (lists_now (state_of book).desk.exec) ++ 10 ∷ [] → IsApplied m ask text end.Done
   applied text h spelled = record {

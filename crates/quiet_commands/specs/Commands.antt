@@ -4,21 +4,21 @@ use Rattle.cc_base.specs.Outside.{with_name}
 use Rattle.cluster_gen.specs.Clusters.{cluster_text}
 use Rattle.command_words.specs.Meaning as words
 use Rattle.core_terms.specs.Asked.{goals_fault}
-use Rattle.user_tasks.specs.declared.ask.Ask.{Ask}
+use Rattle.user_tasks.specs.Asks.{AskView}
 use Rattle.user_tasks.specs.declared.ask.Op.TheVariants as op
 use Rattle.quiet_commands.specs.declared.commands.Request.{Request}
 use Rattle.quiet_commands.specs.declared.commands.Request.TheVariants as request
 
 -- what is asked
 pub data Asked : Type 0 where
-  plan : List ℕ → Bool → Ask → Asked
-  check : List ℕ → List ℕ → Ask → Asked
-  apply : List ℕ → Ask → Asked
-  gen : ℕ → ℕ → ℕ → Bool → Ask → Asked
+  plan : List ℕ → Bool → AskView → Asked
+  check : List ℕ → List ℕ → AskView → Asked
+  apply : List ℕ → AskView → Asked
+  gen : ℕ → ℕ → ℕ → Bool → AskView → Asked
   session : List ℕ → Asked
 
 -- the plan that the words ask for: a rebalance
-abbrev pub rebalance : words.GoalsAsked → List (List ℕ) → Ask
+abbrev pub rebalance : words.GoalsAsked → List (List ℕ) → AskView
 rebalance goals excluded = record {
   op = op.Rebalance;
   brokers = [];
@@ -26,22 +26,24 @@ rebalance goals excluded = record {
   skip = goals.skip_hard_goal_check;
   excluded = excluded;
   dryrun = false;
+  topics = [];
+  factor = 0;
 }
 
 -- nothing is asked where the names of the goals are refused
-abbrev pub unless_refused : Ask → Asked → Option Asked
+abbrev pub unless_refused : AskView → Asked → Option Asked
 unless_refused ask asked = if is_some (goals_fault ask) then None else Some asked
 
-abbrev plan_of : Ask → words.PlanAsked → Option Asked
+abbrev plan_of : AskView → words.PlanAsked → Option Asked
 plan_of ask o = unless_refused ask (plan o.file o.trace ask)
 
-abbrev check_of : Ask → words.CheckAsked → Option Asked
+abbrev check_of : AskView → words.CheckAsked → Option Asked
 check_of ask o = unless_refused ask (check o.file o.trace ask)
 
-abbrev apply_of : Ask → words.ApplyAsked → Option Asked
+abbrev apply_of : AskView → words.ApplyAsked → Option Asked
 apply_of ask o = unless_refused ask (apply o.file ask)
 
-abbrev gen_of : Ask → words.GenAsked → Option Asked
+abbrev gen_of : AskView → words.GenAsked → Option Asked
 gen_of ask o = unless_refused ask (gen o.seed o.brokers o.partitions o.file ask)
 
 -- a session with movers or planners of its own is another call's

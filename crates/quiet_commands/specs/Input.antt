@@ -6,7 +6,7 @@ use Rattle.cluster_json.specs.Faults.{Fault}
 use Rattle.cluster_json.specs.File.{Meaning, meaning_of}
 use Rattle.core_terms.specs.Asked.{case_of}
 use Rattle.core_terms.specs.Input.{accepted, loaded_parts}
-use Rattle.user_tasks.specs.declared.ask.Ask.{Ask}
+use Rattle.user_tasks.specs.Asks.{AskView}
 use Rattle.quiet_commands.specs.declared.input.Loaded.{Loaded}
 
 -- a cluster, the replica list of each of its partitions, and how many movements there may be at a time
@@ -20,7 +20,7 @@ unfoldable pub loaded_cluster : Meaning → Cluster
 loaded_cluster m = record m.cluster { parts = loaded_parts m (accepted m.rules m.samples) }
 
 -- what is planned for: the cluster as the request sees it
-unfoldable pub planned_for : Ask → Meaning → ClusterLists
+unfoldable pub planned_for : AskView → Meaning → ClusterLists
 planned_for ask m = record { cluster = case_of ask (loaded_cluster m); lists = m.lists; caps = m.caps }
 
 -- the same as a value of the program

@@ -65,6 +65,8 @@ fn rebalance(alloc: Global, goals: Goals, excluded: Vec<Topic>) -> Result<Planni
         skip: skip_hard_goal_check,
         excluded: ListOf::new(excluded),
         dryrun: false,
+        topics: ListOf::new(Vec::new(alloc)),
+        factor: 0,
     };
     match goals_of(alloc, &ask) {
         Ok(goals) => Ok(Planning { ask, goals }),

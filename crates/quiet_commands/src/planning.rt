@@ -1,5 +1,6 @@
 // What a command plans.
 ghost use Rattle.std.specs.Prelude.{◌≡◌, false, [], None};
+ghost use Rattle.user_tasks.specs.Asks.{changes_factor};
 ghost use Rattle.core_terms.specs.Asked.{goals_fault, goals_of, is_dry};
 
 use goal_set::GoalList;
@@ -14,5 +15,6 @@ pub struct Planning {
     ghost named: { goals ≡ goals_of ask },
     ghost faultless: { goals_fault ask ≡ None },
     ghost carried: { is_dry ask ≡ false },
+    ghost plans: { changes_factor ask ≡ false },
     ghost no_broker: { ask.brokers ≡ [] },
 }

@@ -14,7 +14,7 @@ use Rattle.cluster_json.specs.File.{Meaning}
 use Rattle.exec_terms.specs.Runs.{hosts_of, opening}
 use Rattle.exec_terms.specs.Stops.{has_died}
 use Rattle.exec_terms.specs.declared.brokers.Host.{Host}
-use Rattle.user_tasks.specs.declared.ask.Ask.{Ask}
+use Rattle.user_tasks.specs.Asks.{AskView}
 use Rattle.core_terms.specs.Asked.{case_of}
 use Rattle.core_terms.specs.Input.{accepted, loaded_parts}
 use Rattle.core_terms.specs.State.{broker_now, present}
@@ -84,7 +84,7 @@ brokers_stay hosts (x ∷ xs) once h = both (broker_now hosts x) (map (broker_no
   both y ys e f = cc
 
 -- what a planner is given in the end: the cluster that is planned for
-pub case_is : (m : Meaning) (ask : Ask) → IsCase m.cluster
+pub case_is : (m : Meaning) (ask : AskView) → IsCase m.cluster
     → case_of ask (present (without_share m) (hosts_at (without_share m)) (accepted m.rules m.samples)) ≡ cluster_asked ask m
 unfolding present loaded_parts
 case_is m ask case = ap (λ (bs : List Broker). case_of ask (record m.cluster { brokers = bs; parts = loaded_parts m (accepted m.rules m.samples) }))

@@ -1,4 +1,3 @@
-pub mod Calm
 pub mod Brokers
 pub mod Stages
 pub mod Steps

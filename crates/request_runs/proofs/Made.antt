@@ -7,7 +7,7 @@ use Rattle.control_core.specs.Books.{BookView, state_of}
 use Rattle.goal_set.specs.declared.kinds.GoalKind.{GoalKind}
 use Rattle.plan_terms.specs.Cluster.{Cluster, Lists}
 use Rattle.exec_terms.specs.Machine.{State}
-use Rattle.user_tasks.specs.declared.ask.Ask.{Ask}
+use Rattle.user_tasks.specs.Asks.{AskView, changes_factor}
 use Rattle.user_tasks.specs.declared.table.Status.{Status}
 use Rattle.core_terms.specs.Asked.{goals_fault, goals_of, is_dry}
 use Rattle.core_terms.specs.History.{AreLegal, state_after}
@@ -45,7 +45,7 @@ state_is : {A : Type 0} (b : BookView A) (file : Meaning) (journal : List Event)
 state_is b file journal e f = rw (e, f) refl
 
 -- a question with an id changes no state
-asked_after : (file : Meaning) (journal : List Event) (ask : Ask) (id : List ℕ) → state_after file (journal ++ event.Submit ask (Some id) ∷ []) ≡ state_after file journal
+asked_after : (file : Meaning) (journal : List Event) (ask : AskView) (id : List ℕ) → state_after file (journal ++ event.Submit ask (Some id) ∷ []) ≡ state_after file journal
 asked_after file journal ask id = after_all file journal (event.Submit ask (Some id) ∷ [])
 
 -- what came of the request, by the broken goal that the reply gives
@@ -62,18 +62,18 @@ none_after : (file : Meaning) → state_after file [] ≡ opening_of file
 unfolding state_after
 none_after file = refl
 
-pub accepted : (m : Meaning) (ask : Ask) → ask.brokers ≡ [] → goals_fault ask ≡ None → is_dry ask ≡ false → {A : Type 0} (a : BookView A) (r : Reply) → a.file ≡ without_share m → a.journal ≡ []
+pub accepted : (m : Meaning) (ask : AskView) → ask.brokers ≡ [] → goals_fault ask ≡ None → is_dry ask ≡ false → changes_factor ask ≡ false → {A : Type 0} (a : BookView A) (r : Reply) → a.file ≡ without_share m → a.journal ≡ []
     → r ≡ reply_of a.file (state_of a) (event.Submit ask None) → r ≡ reply.Accepted (id_at 0)
-accepted m ask brokers goals wet a r file journal e = e ∙ same ∙ first_reply m ask brokers goals wet where
+accepted m ask brokers goals wet plans a r file journal e = e ∙ same ∙ first_reply m ask brokers goals wet plans where
   same : reply_of a.file (state_of a) (event.Submit ask None) ≡ reply_of (without_share m) (opening_of (without_share m)) (event.Submit ask None)
   same = rw (file, journal) (ap (λ (s : Core). reply_of (without_share m) s (event.Submit ask None)) (none_after (without_share m)))
 
 -- no lease and no ticket is out behind it
-pub quiet : (m : Meaning) (ask : Ask) → ask.brokers ≡ [] → goals_fault ask ≡ None → is_dry ask ≡ false → {A : Type 0} (a : BookView A) → a.file ≡ without_share m → a.journal ≡ event.Submit ask None ∷ []
+pub quiet : (m : Meaning) (ask : AskView) → ask.brokers ≡ [] → goals_fault ask ≡ None → is_dry ask ≡ false → changes_factor ask ≡ false → {A : Type 0} (a : BookView A) → a.file ≡ without_share m → a.journal ≡ event.Submit ask None ∷ []
     → IsQuiet (state_of a).desk
-quiet m ask brokers goals wet a file journal = subst (λ (x : Core). IsQuiet x.desk) (sym (state_is a (without_share m) (event.Submit ask None ∷ []) file journal)) (first_quiet m ask brokers goals wet)
+quiet m ask brokers goals wet plans a file journal = subst (λ (x : Core). IsQuiet x.desk) (sym (state_is a (without_share m) (event.Submit ask None ∷ []) file journal)) (first_quiet m ask brokers goals wet plans)
 
-module _ (m : Meaning) (ask : Ask) (brokers : ask.brokers ≡ []) (goals : goals_fault ask ≡ None) (wet : is_dry ask ≡ false)
+module _ (m : Meaning) (ask : AskView) (brokers : ask.brokers ≡ []) (goals : goals_fault ask ≡ None) (wet : is_dry ask ≡ false) (plans : changes_factor ask ≡ false)
     (a z b : BookView MemoryCluster) (k l : Copies) (sure : l.faults ≡ 0)
     (file_a : a.file ≡ without_share m) (journal_a : a.journal ≡ event.Submit ask None ∷ [])
     (drained : HasDrainedAlone (known_by_owner a) (known_by_owner z) k l drain.Drained) (file_z : z.file ≡ a.file) (done : IsDone (state_of z).desk)
@@ -122,9 +122,9 @@ module _ (m : Meaning) (ask : Ask) (brokers : ask.brokers ≡ []) (goals : goals
   tells = subst (λ (x : Core). Tells (cluster_asked ask m) m.lists (goals_of ask) x.desk.exec (reply_of z.file (state_of z) (event.Submit ask (Some (id_at 0))))) (sym state_b)
       (subst (λ (f : Meaning). Tells (cluster_asked ask m) m.lists (goals_of ask) (state_of z).desk.exec (reply_of f (state_of z) (event.Submit ask (Some (id_at 0))))) (sym (file_z ∙ file_a))
       (subst (λ (x : Core). Tells (cluster_asked ask m) m.lists (goals_of ask) x.desk.exec (reply_of file x (event.Submit ask (Some (id_at 0))))) (sym state_z)
-      (told m ask brokers goals wet (state_after file (event.Submit ask None ∷ rest)) (histories_are_sound file (event.Submit ask None ∷ rest) input_is legal_z)
+      (told m ask brokers goals wet plans (state_after file (event.Submit ask None ∷ rest)) (histories_are_sound file (event.Submit ask None ∷ rest) input_is legal_z)
       (subst (λ (x : Core). IsDone x.desk) state_z done)
-      (under_way m ask brokers goals wet rest input_is legal_z.1 (drained_calm (core_rules file) (event.Submit ask None ∷ rest) first rest drained.copies rounds no_failure)))))
+      (under_way m ask brokers goals wet plans rest input_is legal_z.1 (drained_calm (core_rules file) (event.Submit ask None ∷ rest) first rest drained.copies rounds no_failure)))))
 
   pub run : IsRun file ask b
   run = record {

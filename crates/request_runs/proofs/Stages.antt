@@ -12,7 +12,7 @@ use Rattle.goal_set.specs.Kept.{FailureView, PlanView}
 use Rattle.goal_set.specs.declared.kinds.GoalKind.{GoalKind}
 use Rattle.exec_terms.specs.Machine.{State, any_unfinished}
 use Rattle.exec_terms.specs.declared.brokers.Host.{Host}
-use Rattle.user_tasks.specs.declared.ask.Ask.{Ask}
+use Rattle.user_tasks.specs.Asks.{AskView}
 use Rattle.user_tasks.specs.declared.table.Status.{Status}
 use Rattle.user_tasks.specs.declared.table.Status.TheVariants as status
 use Rattle.core_terms.specs.State.{Core}
@@ -22,7 +22,7 @@ use Rattle.core_terms.specs.Step.{with_desk}
 use Rattle.core_terms.specs.Works.{ends_execution, execution_ended, moved, with_exec}
 use Rattle.core_terms.specs.declared.jobs.Broken.{Broken}
 use Rattle.core_terms.specs.declared.jobs.Job.{Job}
-use Rattle.request_runs.proofs.Calm.{IsCalm, all_completed}
+use Rattle.core_laws.proofs.Calm.{IsCalm, all_completed}
 
 -- the request has its plan, which is carried out
 pub record IsLed (c : Cluster) (lists : Lists) (hosts : List Host) (goals : List GoalKind) (e : State) : Type 0 where
@@ -45,14 +45,15 @@ IsStage c lists hosts goals j e status.Completed = IsLed c lists hosts goals e
 IsStage c lists hosts goals j e status.CompletedWithError = IsLost c lists hosts goals j.broken e
 
 -- the state with one request
-abbrev pub core_in : Ask → List Sample → Status → Job → State → ℕ → Core
+abbrev pub core_in : AskView → List Sample → Status → Job → State → ℕ → Core
 core_in ask samples st j e n = record {
   desk = record { exec = e; tasks = record { ask = ask; status = st } ∷ []; jobs = j ∷ []; tickets = n; closing = false };
   samples = samples;
+  since = [];
 }
 
 -- the state has just this request, which is so far
-pub record IsUnderWay (c : Cluster) (lists : Lists) (hosts : List Host) (goals : List GoalKind) (ask : Ask) (samples : List Sample) (s : Core) : Type 0 where
+pub record IsUnderWay (c : Cluster) (lists : Lists) (hosts : List Host) (goals : List GoalKind) (ask : AskView) (samples : List Sample) (s : Core) : Type 0 where
   pub status : Status
   pub job : Job
   pub exec : State
@@ -76,7 +77,7 @@ module _ (c : Cluster) (lists : Lists) (hosts : List Host) (goals : List GoalKin
   other_exec j e u status.Completed f h = record { plan = h.plan; planned = h.planned; calm = f (proposals lists h.plan.end) h.calm }
   other_exec j e u status.CompletedWithError f h = record { failure = h.failure; failed = h.failed; broken_is = h.broken_is; calm = f [] h.calm }
 
-  module _ (ask : Ask) (samples : List Sample) where
+  module _ (ask : AskView) (samples : List Sample) where
     -- where the execution ends, each task has its new list, and so the user task is completed
     ended : (j : Job) (e u : State) (n : ℕ) (st : Status) → any_unfinished u.tasks ≡ false → IsStage c lists hosts goals j u st
         → IsUnderWay c lists hosts goals ask samples

@@ -14,7 +14,7 @@ use Rattle.exec_terms.specs.declared.brokers.Host.{Host}
 use Rattle.goal_optimizer.specs.Outcomes.{IsFailureOf, IsPlanOf}
 use Rattle.goal_set.specs.Kept.{FailureView, IsFailure, IsPlan, PlanView}
 use Rattle.goal_set.specs.declared.kinds.GoalKind.{GoalKind}
-use Rattle.user_tasks.specs.declared.ask.Ask.{Ask}
+use Rattle.user_tasks.specs.Asks.{AskView}
 use Rattle.user_tasks.specs.declared.table.Status.{Status}
 use Rattle.user_tasks.specs.declared.table.Status.TheVariants as status
 use Rattle.core_terms.specs.Asked.{case_of, goals_of, is_dry}
@@ -31,7 +31,7 @@ use Rattle.core_terms.specs.declared.events.Event.TheVariants as event
 use Rattle.core_terms.specs.declared.jobs.Job.{Job}
 use Rattle.core_terms.proofs.Sameness.{sameness_is_equality}
 use Rattle.core_laws.proofs.Jobs.{holder_active}
-use Rattle.request_runs.proofs.Calm.{IsCalm, calm_cancel, calm_commit, calm_copied, calm_launch, calm_take, lists_settled}
+use Rattle.core_laws.proofs.Calm.{IsCalm, calm_cancel, calm_commit, calm_copied, calm_launch, calm_take, lists_settled}
 use Rattle.request_runs.proofs.Stages.{IsStage, IsUnderWay, core_in, moved_on, other_exec, other_job}
 
 -- the events of rounds that are done, but for a copy that failed
@@ -45,7 +45,7 @@ is_calm (event.Commit lease) = true
 is_calm (event.Cancel lease) = true
 is_calm _ = false
 
-module _ (file : Meaning) (c : Cluster) (lists : Lists) (hosts : List Host) (ask : Ask) (samples : List Sample)
+module _ (file : Meaning) (c : Cluster) (lists : Lists) (hosts : List Host) (ask : AskView) (samples : List Sample)
     (case_is : case_of ask (present file hosts samples) ≡ c) (wet : is_dry ask ≡ false) where
   abbrev Is : Core → Type 0
   Is s = IsUnderWay c lists hosts (goals_of ask) ask samples s

@@ -13,7 +13,7 @@ use Rattle.goal_set.specs.declared.kinds.GoalKind.{GoalKind}
 use Rattle.exec_terms.specs.Machine.{State}
 use Rattle.exec_terms.specs.Runs.{opening}
 use Rattle.exec_terms.proofs.WorkLeft.{position-None}
-use Rattle.user_tasks.specs.declared.ask.Ask.{Ask}
+use Rattle.user_tasks.specs.Asks.{AskView, changes_factor}
 use Rattle.user_tasks.specs.declared.table.Status.{Status}
 use Rattle.user_tasks.specs.declared.table.Status.TheVariants as status
 use Rattle.core_terms.specs.Asked.{goals_fault, goals_of, is_dry}
@@ -37,7 +37,7 @@ use Rattle.core_laws.proofs.Histories.{opening_is_sound}
 use Rattle.core_laws.proofs.Sound.{each_event_keeps_sound}
 use Rattle.request_runs.specs.Runs.{IsCarriedOut, IsGivenUp, cluster_asked, without_share}
 use Rattle.request_runs.proofs.Brokers.{case_is, hosts_at}
-use Rattle.request_runs.proofs.Calm.{IsOn, lists_carried, lists_kept}
+use Rattle.core_laws.proofs.Calm.{IsOn, lists_carried, lists_kept}
 use Rattle.request_runs.proofs.Stages.{IsStage, IsUnderWay, core_in}
 use Rattle.request_runs.proofs.Steps.{is_calm, step_keeps}
 
@@ -51,7 +51,7 @@ Tells c lists goals e (reply.Task id st (outcome.Done proposals)) = IsCarriedOut
 Tells c lists goals e (reply.Task id st (outcome.Failed goal left)) = IsGivenUp c lists goals (record { goal = goal; left = left }) e
 Tells c lists goals e _ = ⊥
 
-module _ (m : Meaning) (ask : Ask) (brokers : ask.brokers ≡ []) (goals : goals_fault ask ≡ None) (wet : is_dry ask ≡ false) where
+module _ (m : Meaning) (ask : AskView) (brokers : ask.brokers ≡ []) (goals : goals_fault ask ≡ None) (wet : is_dry ask ≡ false) (plans : changes_factor ask ≡ false) where
   abbrev file : Meaning
   file = without_share m
 
@@ -73,11 +73,11 @@ module _ (m : Meaning) (ask : Ask) (brokers : ask.brokers ≡ []) (goals : goals
 
   pub first_reply : reply_of file (opening_of file) first ≡ reply.Accepted (id_at 0)
   unfolding opening_desk
-  first_reply = rw no_refusal refl
+  first_reply = rw (plans, no_refusal) refl
 
   opened : Is (next file (opening_of file) first)
   unfolding opening_desk
-  opened = rw no_refusal (record {
+  opened = rw (plans, no_refusal) (record {
     status = status.Active;
     job = new_job ask;
     exec = opening file.cluster file.lists file.caps;
@@ -99,7 +99,7 @@ module _ (m : Meaning) (ask : Ask) (brokers : ask.brokers ≡ []) (goals : goals
   -- the first request alone: no lease and no ticket is out
   pub first_quiet : IsQuiet (state_after file (first ∷ [])).desk
   unfolding state_after opening_desk
-  first_quiet = rw no_refusal (record { leases = refl; tickets = refl })
+  first_quiet = rw (plans, no_refusal) (record { leases = refl; tickets = refl })
 
   module _ (st : Status) (j : Job) (e : State) (n : ℕ) where
     abbrev here : Core

@@ -22,19 +22,19 @@ use Rattle.mover_rounds.specs.Drained.{IsDrained}
 use Rattle.mover_rounds.specs.Made.{failures_of}
 use Rattle.mover_rounds.specs.declared.drains.DrainEnd.TheVariants as drain
 use Rattle.plan_terms.specs.Cluster.{Cluster, Lists}
-use Rattle.user_tasks.specs.declared.ask.Ask.{Ask}
+use Rattle.user_tasks.specs.Asks.{AskView}
 
 -- the file, where no partition needs to have a load
 abbrev pub without_share : Meaning → Meaning
 without_share m = record m { ratio = record { num = 0; den = 1 } }
 
 -- the cluster that is planned for: the file's, with the loads of its samples, as the request sees it
-abbrev pub cluster_asked : Ask → Meaning → Cluster
+abbrev pub cluster_asked : AskView → Meaning → Cluster
 cluster_asked ask m = case_of ask (record m.cluster { parts = loaded_parts m (accepted m.rules m.samples) })
 
 -- the journal of a book that was opened with the file: the request; the rounds of a drain, in which no copy failed and behind which
 -- nothing is unfinished; and the question what came of it
-pub record IsRun (m : Meaning) (ask : Ask) (b : BookView MemoryCluster) : Type 0 where
+pub record IsRun (m : Meaning) (ask : AskView) (b : BookView MemoryCluster) : Type 0 where
   pub file_is : b.file ≡ m
   pub drained : List Event
   pub copies : List ChunkCopy

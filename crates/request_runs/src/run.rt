@@ -5,6 +5,7 @@ ghost use Rattle.cluster_json.specs.Views.{file_seen};
 ghost use Rattle.control_core.specs.Books.{state_of};
 ghost use Rattle.core_laws.specs.Alone.{IsDone, IsQuiet};
 ghost use Rattle.core_terms.specs.Asked.{goals_fault, goals_of, is_dry};
+ghost use Rattle.user_tasks.specs.Asks.{changes_factor};
 ghost use Rattle.core_terms.specs.Jobs.{id_at};
 ghost use Rattle.mover_rounds.specs.Exact.{HasDrainedAlone};
 ghost use Rattle.mover_rounds.specs.Owned.{known_by_owner};
@@ -41,6 +42,7 @@ fn begin(
     // A valid request for a plan that is carried out.
     requires file { IsFile file }
     requires carried { is_dry ask ≡ false }
+    requires plans { changes_factor ask ≡ false }
     requires brokers { ask.brokers ≡ [] }
     requires goals { goals_fault ask ≡ None }
     // The book with this request alone.
@@ -120,6 +122,7 @@ pub fn run_request<R: Threads + Sync>(
 ) -> Result<RequestRun, Memory>
     requires file { IsFile file }
     requires carried { is_dry ask ≡ false }
+    requires plans { changes_factor ask ≡ false }
     requires brokers { ask.brokers ≡ [] }
     requires goals { goals_fault ask ≡ None }
     ensures run { IfOk result (λ r. IsRun (without_share (file_seen file)) ask r.book) }

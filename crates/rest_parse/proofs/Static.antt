@@ -9,7 +9,7 @@ use Rattle.matchit.specs.Seek.{own, step, or_else, seek, first, param_step, has_
 use Rattle.matchit.specs.Order.{lookup}
 use Rattle.matchit.specs.Router.{RouteOf}
 use Rattle.rest_parse.specs.declared.routes.Endpoint.{Endpoint}
-use Rattle.rest_parse.specs.declared.routes.Endpoint.TheVariants.{State, Load, ClusterState, UserTasks, Proposals, Rebalance, AddBroker, RemoveBroker, DemoteBroker, StopExecution, Admin, Pump, Kill, Sample}
+use Rattle.rest_parse.specs.declared.routes.Endpoint.TheVariants.{State, Load, ClusterState, UserTasks, Proposals, Rebalance, AddBroker, RemoveBroker, DemoteBroker, StopExecution, Admin, TopicConfiguration, Pump, Kill, Sample, Detect}
 use Rattle.rest_parse.specs.Routes.{all_endpoints, among, endpoint_at, path_of, rows, rows_of, static_row}
 
 -- each token is a byte
@@ -109,9 +109,11 @@ utf8_path RemoveBroker = all_ascii _ refl
 utf8_path DemoteBroker = all_ascii _ refl
 utf8_path StopExecution = all_ascii _ refl
 utf8_path Admin = all_ascii _ refl
+utf8_path TopicConfiguration = all_ascii _ refl
 utf8_path Pump = all_ascii _ refl
 utf8_path Kill = all_ascii _ refl
 utf8_path Sample = all_ascii _ refl
+utf8_path Detect = all_ascii _ refl
 
 none_among : (es : List Endpoint) (path : List ℕ) → (IsUtf8 path → ⊥) → None ≡ among es path
 none_among [] path h = refl

@@ -1,10 +1,10 @@
 -- What requests mean.
-use Rattle.std.specs.Prelude.{◌≡◌, ◌≤◌, ◌<◌, ◌^◌, ⊤, ℕ, Bool, true, false, ◌||◌, List, [], bytes_eq, if◌then◌else◌, Option, Some, None, IfSome, unwrap_or, option_and_then, Result, Ok, Err, codes}
+use Rattle.std.specs.Prelude.{◌≡◌, ◌≤◌, ◌<◌, ◌^◌, ⊤, ℕ, Bool, true, false, ◌||◌, List, [], bytes_eq, nat_lt, if◌then◌else◌, Option, Some, None, IfSome, unwrap_or, option_and_then, Result, Ok, Err, codes}
 use Rattle.uuid.specs.Text.{parsed}
 use Rattle.cluster_json.specs.Faults.{Fault}
 use Rattle.cluster_json.specs.Named.{named_of}
 use Rattle.cluster_json.specs.declared.named.NamedSample.{NamedSample}
-use Rattle.rest_parse.specs.Parameters.{IsCap, bad_name, broker_cap, cap_of, cluster_cap, id_list_of, id_of, leader_cap, steps_of, truth_of}
+use Rattle.rest_parse.specs.Parameters.{IsCap, bad_name, broker_cap, cap_of, cluster_cap, factor_of, id_list_of, id_of, leader_cap, moment_of, steps_of, truth_of}
 use Rattle.plan_terms.specs.Commas.{names_in}
 use Rattle.rest_parse.specs.Query.{Pair, has_name, pairs_of, path_in, query_in, value_at}
 use Rattle.rest_parse.specs.Routes.{endpoint_at, is_read}
@@ -16,7 +16,7 @@ use Rattle.user_tasks.specs.declared.ask.Query.TheVariants as query
 use Rattle.rest_stream.specs.declared.raw.RawRequest.{RawRequest}
 use Rattle.rest_parse.specs.declared.routes.Endpoint.{Endpoint}
 use Rattle.rest_parse.specs.declared.routes.Endpoint.TheVariants as endpoint
-use Rattle.user_tasks.specs.declared.ask.Ask.{Ask}
+use Rattle.user_tasks.specs.Asks.{AskView}
 use Rattle.user_tasks.specs.declared.ask.Op.{Op}
 use Rattle.user_tasks.specs.declared.ask.Op.TheVariants as op
 
@@ -37,7 +37,7 @@ abbrev pub ids_in : List Pair → List ℕ
 ids_in pairs = unwrap_or (option_and_then id_list_of (value_at (codes "brokerid") pairs)) []
 
 -- what the pairs ask for
-abbrev pub ask_of : Op → List Pair → Ask
+abbrev pub ask_of : Op → List Pair → AskView
 ask_of o pairs = record {
   op = o;
   brokers = ids_in pairs;
@@ -45,6 +45,25 @@ ask_of o pairs = record {
   skip = flag_in (codes "skip_hard_goal_check") false pairs;
   excluded = names_at (codes "excluded_topics") pairs;
   dryrun = flag_in (codes "dryrun") true pairs;
+  topics = [];
+  factor = 0;
+}
+
+-- the replication factor that is asked for
+abbrev pub factor_in : List Pair → ℕ
+factor_in pairs = unwrap_or (option_and_then factor_of (value_at (codes "replication_factor") pairs)) 1
+
+-- the change of the replication factor that the pairs ask for
+abbrev pub change_of : List Pair → AskView
+change_of pairs = record {
+  op = op.TopicConfiguration;
+  brokers = [];
+  goals = [];
+  skip = false;
+  excluded = [];
+  dryrun = flag_in (codes "dryrun") true pairs;
+  topics = names_at (codes "topic") pairs;
+  factor = factor_in pairs;
 }
 
 -- a cap of movements, where it is there
@@ -64,17 +83,19 @@ abbrev pub missing_name : Endpoint → List Pair → Option (List ℕ)
 missing_name endpoint.AddBroker pairs = unless_there (codes "brokerid") pairs
 missing_name endpoint.RemoveBroker pairs = unless_there (codes "brokerid") pairs
 missing_name endpoint.DemoteBroker pairs = unless_there (codes "brokerid") pairs
+missing_name endpoint.Detect pairs = unless_there (codes "now") pairs
+missing_name endpoint.TopicConfiguration pairs = if has_name (codes "topic") pairs then unless_there (codes "replication_factor") pairs else Some (codes "topic")
 missing_name endpoint.Kill pairs = unless_there (codes "broker") pairs
 missing_name endpoint.Admin pairs = if has_cap pairs then None else Some broker_cap
 missing_name e pairs = None
 
 -- the key names no user task, or the one of this id
-abbrev with_id : Ask → Option (List ℕ) → Result Call HttpFault
+abbrev with_id : AskView → Option (List ℕ) → Result Call HttpFault
 with_id ask None = Err (fault.BadParameter (codes "User-Task-ID"))
 with_id ask (Some id) = Ok (call.Submit ask (Some id))
 
 -- a plan, or the user task that the key names
-abbrev pub submitted : Ask → Option (List ℕ) → Result Call HttpFault
+abbrev pub submitted : AskView → Option (List ℕ) → Result Call HttpFault
 submitted ask None = Ok (call.Submit ask None)
 submitted ask (Some key) = with_id ask (parsed key)
 
@@ -85,6 +106,18 @@ sampled (Err f) = Err fault.BadBody
 
 abbrev pub sample_call : List ℕ → Result Call HttpFault
 sample_call body = sampled (named_of body)
+
+-- a moment or an age in milliseconds, where it is there
+abbrev pub moment_in : List ℕ → ℕ → List Pair → ℕ
+moment_in name default pairs = unwrap_or (option_and_then moment_of (value_at name pairs)) default
+
+-- a lost broker is told no later than it is removed
+abbrev detected : ℕ → ℕ → ℕ → Result Call HttpFault
+detected now alert heal = if nat_lt heal alert then Err (fault.BadParameter (codes "heal_ms")) else Ok (call.Detect now alert heal)
+
+-- what is to be done about lost brokers and broken goals; a lost broker is told after 15 minutes, and removed after 30
+abbrev pub detect_call : List Pair → Result Call HttpFault
+detect_call pairs = detected (moment_in (codes "now") 0 pairs) (moment_in (codes "alert_ms") 900000 pairs) (moment_in (codes "heal_ms") 1800000 pairs)
 
 -- what an endpoint is asked by pairs that are in order, and by the key and the body; only plans look at the key
 abbrev pub called : Endpoint → List Pair → RawRequest → Result Call HttpFault
@@ -97,6 +130,8 @@ called endpoint.Rebalance pairs raw = submitted (ask_of op.Rebalance pairs) raw.
 called endpoint.AddBroker pairs raw = submitted (ask_of op.AddBroker pairs) raw.key
 called endpoint.RemoveBroker pairs raw = submitted (ask_of op.RemoveBroker pairs) raw.key
 called endpoint.DemoteBroker pairs raw = submitted (ask_of op.DemoteBroker pairs) raw.key
+called endpoint.TopicConfiguration pairs raw = submitted (change_of pairs) raw.key
+called endpoint.Detect pairs raw = detect_call pairs
 called endpoint.StopExecution pairs raw = Ok (call.Stop (flag_in (codes "force_stop") false pairs))
 called endpoint.Admin pairs raw = Ok (call.Caps (cap_at broker_cap pairs) (cap_at cluster_cap pairs) (cap_at leader_cap pairs))
 called endpoint.Pump pairs raw = Ok (call.Pump (unwrap_or (option_and_then steps_of (value_at (codes "steps") pairs)) 1))
@@ -142,3 +177,4 @@ IsInRange (call.Sample topic number time loads) = (number < 2 ^ 31) × (time < 2
 IsInRange (call.Show shown) = ⊤
 IsInRange (call.Pump steps) = (1 ≤ steps) × (steps ≤ 100000)
 IsInRange (call.Caps of_broker of_cluster of_leaders) = IfSome of_broker IsCap × IfSome of_cluster IsCap × IfSome of_leaders IsCap
+IsInRange (call.Detect now alert heal) = (now < 2 ^ 53) × (alert ≤ heal) × (heal < 2 ^ 53)

@@ -25,7 +25,8 @@ table =
     (codes "goals", parameter.Goals) ∷ (codes "skip_hard_goal_check", parameter.SkipHardGoals) ∷ (codes "excluded_topics", parameter.ExcludedTopics)
     ∷ (codes "dryrun", parameter.DryRun) ∷ (codes "brokerid", parameter.BrokerIds) ∷ (codes "force_stop", parameter.ForceStop)
     ∷ (codes "steps", parameter.Steps) ∷ (codes "broker", parameter.Broker) ∷ (broker_cap, parameter.BrokerCap) ∷ (cluster_cap, parameter.ClusterCap)
-    ∷ (leader_cap, parameter.LeaderCap) ∷ (codes "json", parameter.Unused) ∷ (codes "verbose", parameter.Unused)
+    ∷ (leader_cap, parameter.LeaderCap) ∷ (codes "topic", parameter.Topics) ∷ (codes "replication_factor", parameter.Factor)
+    ∷ (codes "now", parameter.Now) ∷ (codes "alert_ms", parameter.AlertAge) ∷ (codes "heal_ms", parameter.HealAge) ∷ (codes "json", parameter.Unused) ∷ (codes "verbose", parameter.Unused)
     ∷ (codes "reason", parameter.Unused) ∷ (codes "allow_capacity_estimation", parameter.Unused) ∷ []
 
 abbrev named : List (List ℕ × Parameter) → List ℕ → Option Parameter
@@ -74,6 +75,17 @@ is_cap parameter.ClusterCap = true
 is_cap parameter.LeaderCap = true
 is_cap p = false
 
+abbrev is_change : Parameter → Bool
+is_change parameter.Topics = true
+is_change parameter.Factor = true
+is_change p = false
+
+abbrev is_moment : Parameter → Bool
+is_moment parameter.Now = true
+is_moment parameter.AlertAge = true
+is_moment parameter.HealAge = true
+is_moment p = false
+
 -- the endpoint takes the parameter
 abbrev pub accepts : Endpoint → Parameter → Bool
 accepts endpoint.Proposals p = is_plan p
@@ -83,6 +95,8 @@ accepts endpoint.RemoveBroker p = is_plan p || is_dryrun p || is_ids p
 accepts endpoint.DemoteBroker p = is_ids p || is_dryrun p || is_unused p
 accepts endpoint.StopExecution p = is_force p || is_unused p
 accepts endpoint.Admin p = is_cap p || is_unused p
+accepts endpoint.TopicConfiguration p = is_change p || is_dryrun p || is_unused p
+accepts endpoint.Detect p = is_moment p || is_unused p
 accepts endpoint.Pump p = is_steps p || is_unused p
 accepts endpoint.Kill p = is_broker p || is_unused p
 accepts e p = is_unused p
@@ -107,6 +121,14 @@ steps_of text = within 1 100001 (whole_of text)
 -- a cap of movements: 1 to 10,000
 abbrev pub cap_of : List ℕ → Option ℕ
 cap_of text = within 1 10001 (whole_of text)
+
+-- a replication factor: 1 to 8
+abbrev pub factor_of : List ℕ → Option ℕ
+factor_of text = within 1 9 (whole_of text)
+
+-- a moment, or an age, in milliseconds: below 2^53
+abbrev pub moment_of : List ℕ → Option ℕ
+moment_of text = within 0 (2 ^ 53) (whole_of text)
 
 -- a cap of movements is 1 to 10,000
 abbrev pub IsCap : ℕ → Type 0
@@ -143,6 +165,11 @@ has_form parameter.Broker value = is_some (id_of value)
 has_form parameter.BrokerCap value = is_some (cap_of value)
 has_form parameter.ClusterCap value = is_some (cap_of value)
 has_form parameter.LeaderCap value = is_some (cap_of value)
+has_form parameter.Topics value = not (bytes_eq value [])
+has_form parameter.Factor value = is_some (factor_of value)
+has_form parameter.Now value = is_some (moment_of value)
+has_form parameter.AlertAge value = is_some (moment_of value)
+has_form parameter.HealAge value = is_some (moment_of value)
 has_form parameter.Unused value = true
 
 abbrev pub is_taken : Endpoint → Option Parameter → List ℕ → Bool

@@ -3,7 +3,7 @@ use Rattle.std.specs.Prelude.{ℕ, Bool, true, false, List, [], ◌∷◌, Optio
 use Rattle.matchit.specs.Rows.{RowsOf}
 use Rattle.matchit.specs.Router.{RouteOf}
 use Rattle.rest_parse.specs.declared.routes.Endpoint.{Endpoint}
-use Rattle.rest_parse.specs.declared.routes.Endpoint.TheVariants.{State, Load, ClusterState, UserTasks, Proposals, Rebalance, AddBroker, RemoveBroker, DemoteBroker, StopExecution, Admin, Pump, Kill, Sample}
+use Rattle.rest_parse.specs.declared.routes.Endpoint.TheVariants.{State, Load, ClusterState, UserTasks, Proposals, Rebalance, AddBroker, RemoveBroker, DemoteBroker, StopExecution, Admin, TopicConfiguration, Pump, Kill, Sample, Detect}
 
 -- requests to it are sent with `GET`, and not with `POST`
 abbrev pub is_read : Endpoint → Bool
@@ -18,9 +18,11 @@ is_read RemoveBroker = false
 is_read DemoteBroker = false
 is_read StopExecution = false
 is_read Admin = false
+is_read TopicConfiguration = false
 is_read Pump = false
 is_read Kill = false
 is_read Sample = false
+is_read Detect = false
 
 -- its path
 abbrev pub path_of : Endpoint → List ℕ
@@ -35,9 +37,11 @@ path_of RemoveBroker = codes "/kafkacruisecontrol/remove_broker"
 path_of DemoteBroker = codes "/kafkacruisecontrol/demote_broker"
 path_of StopExecution = codes "/kafkacruisecontrol/stop_proposal_execution"
 path_of Admin = codes "/kafkacruisecontrol/admin"
+path_of TopicConfiguration = codes "/kafkacruisecontrol/topic_configuration"
 path_of Pump = codes "/cluster/pump"
 path_of Kill = codes "/cluster/kill"
 path_of Sample = codes "/cluster/sample"
+path_of Detect = codes "/cluster/detect"
 
 -- the first of the endpoints with this path
 abbrev pub among : List Endpoint → List ℕ → Option Endpoint
@@ -46,7 +50,7 @@ among (e ∷ es) path = if bytes_eq (path_of e) path then Some e else among es p
 
 -- all endpoints, in order of their paths
 abbrev pub all_endpoints : List Endpoint
-all_endpoints = Kill ∷ Pump ∷ Sample ∷ AddBroker ∷ Admin ∷ DemoteBroker ∷ ClusterState ∷ Load ∷ Proposals ∷ Rebalance ∷ RemoveBroker ∷ State ∷ StopExecution ∷ UserTasks ∷ []
+all_endpoints = Detect ∷ Kill ∷ Pump ∷ Sample ∷ AddBroker ∷ Admin ∷ DemoteBroker ∷ ClusterState ∷ Load ∷ Proposals ∷ Rebalance ∷ RemoveBroker ∷ State ∷ StopExecution ∷ TopicConfiguration ∷ UserTasks ∷ []
 
 -- the endpoint at a path
 unfoldable pub endpoint_at : List ℕ → Option Endpoint
@@ -56,8 +60,8 @@ endpoint_at path = among all_endpoints path
 abbrev pub first_five : List Endpoint
 first_five = ClusterState ∷ Load ∷ Proposals ∷ State ∷ UserTasks ∷ []
 
-abbrev pub first_nine : List Endpoint
-first_nine = AddBroker ∷ DemoteBroker ∷ ClusterState ∷ Load ∷ Proposals ∷ Rebalance ∷ RemoveBroker ∷ State ∷ UserTasks ∷ []
+abbrev pub first_ten : List Endpoint
+first_ten = AddBroker ∷ DemoteBroker ∷ ClusterState ∷ Load ∷ Proposals ∷ Rebalance ∷ RemoveBroker ∷ State ∷ TopicConfiguration ∷ UserTasks ∷ []
 
 -- what a router keeps of a route with no parameter
 abbrev pub static_row : Endpoint → List ℕ × RouteOf Endpoint

@@ -1,13 +1,14 @@
 // What requests mean.
-ghost use Rattle.std.specs.Prelude.{◌≡◌, ◌≤◌, ◌⊎◌, bytes_eq, codes, option_and_then, option_map, string_bytes, unwrap_or, IfOk, IfSome};
-ghost use Rattle.rest_parse.specs.Calls.{IsInRange, UnlessMemory, ask_of, called, cap_at, flag_in, has_cap, ids_in, meaning, meaning_at, method_of, missing_name, names_at, sample_call, submitted, unless_there};
+ghost use Rattle.std.specs.Prelude.{◌≡◌, ◌≤◌, ◌<◌, ◌^◌, ◌⊎◌, false, bytes_eq, codes, option_and_then, option_map, string_bytes, unwrap_or, IfOk, IfSome};
+ghost use Rattle.rest_parse.specs.Calls.{IsInRange, UnlessMemory, ask_of, called, cap_at, change_of, detect_call, factor_in, flag_in, has_cap, ids_in, meaning, meaning_at, method_of, missing_name, moment_in, names_at, sample_call, submitted, unless_there};
 ghost use Rattle.rest_parse.specs.Parameters.{IsCap, broker_cap, cluster_cap, id_of, leader_cap, steps_of};
 ghost use Rattle.rest_parse.specs.Query.{value_at};
+ghost use Rattle.user_tasks.specs.Factors.{changes_topics};
 ghost use Rattle.uuid.specs.Text.{parsed};
 
 use crate::faulty::bad_name;
 use crate::lists::id_list;
-use crate::parameters::{cap_of, id_of, steps_of, truth_of};
+use crate::parameters::{cap_of, factor_of, id_of, moment_of, steps_of, truth_of};
 use crate::query::{Pair, has_name, read_pairs, split_target, value_of};
 use crate::routes::{Endpoint, Routes};
 use cluster_json::{FileRefusal, NamedSample, read_named_sample};
@@ -24,6 +25,13 @@ const BROKER_CAP: &str = "concurrent_partition_movements_per_broker";
 const CLUSTER_CAP: &str = "max_partition_movements_in_cluster";
 
 const LEADER_CAP: &str = "concurrent_leader_movements";
+
+// How long a broker is lost before that is told, and before it is removed, in milliseconds, where
+// the request doesn't say: Cruise Control's `broker.failure.alert.threshold.ms` and
+// `broker.failure.self.healing.threshold.ms`.
+const ALERT_AGE: u64 = 900_000;
+
+const HEAL_AGE: u64 = 1_800_000;
 
 /// The name of a parameter.
 #[derive(Debug, Drop)]
@@ -73,6 +81,10 @@ pub enum Call {
     /// Other caps of movements, each 1 to 10,000: of one broker, of the cluster, of leaders alone.
     /// An absent one stays.
     Caps(Option<u32>, Option<u32>, Option<u32>),
+    /// What is to be done about lost brokers and broken goals, at this moment in milliseconds: from
+    /// which age on a lost broker is told, and from which, no less, it is removed. All are below
+    /// 2^53.
+    Detect(u64, u64, u64),
 }
 
 /// Why a request means nothing.
@@ -85,7 +97,8 @@ pub enum HttpFault {
     #[error("method not allowed")]
     WrongMethod,
     /// The parameter is unknown to the endpoint, repeated, of another form, or absent where it has
-    /// to be there; or a plan's key is no UUID, with the name `User-Task-ID`.
+    /// to be there; or a plan's key is no UUID, with the name `User-Task-ID`; or lost brokers are
+    /// to be removed sooner than told, with the name `heal_ms`.
     #[error("bad parameter")]
     BadParameter(ParameterName),
     /// The body is no sample.
@@ -151,6 +164,7 @@ fn ids_in(alloc: Global, pairs: &[Pair]) -> Result<ListOf<u32>, AllocError>
 
 // What the pairs ask for.
 fn ask_of(alloc: Global, op: Op, pairs: &[Pair]) -> Result<Ask, AllocError>
+    requires { changes_topics op ≡ false }
     ensures { IfOk result (λ a. a ≡ ask_of op pairs.now) }
 {
     Ok(Ask {
@@ -160,6 +174,36 @@ fn ask_of(alloc: Global, op: Op, pairs: &[Pair]) -> Result<Ask, AllocError>
         skip: flag_in(pairs, "skip_hard_goal_check", false),
         excluded: names_at(alloc, pairs, "excluded_topics")?,
         dryrun: flag_in(pairs, "dryrun", true),
+        topics: ListOf::new(Vec::new(alloc)),
+        factor: 0,
+    })
+}
+
+// The replication factor that is asked for.
+fn factor_in(pairs: &[Pair]) -> u32
+    ensures value { result ≡ factor_in pairs.now }
+    ensures some { 1 ≤ result }
+    ensures few { result ≤ 8 }
+{
+    match value_of(pairs, "replication_factor") {
+        Some(value) => factor_of(value).unwrap_or(1),
+        None => 1,
+    }
+}
+
+// The change of the replication factor that the pairs ask for.
+fn change_of(alloc: Global, pairs: &[Pair]) -> Result<Ask, AllocError>
+    ensures { IfOk result (λ a. a ≡ change_of pairs.now) }
+{
+    Ok(Ask {
+        op: Op::TopicConfiguration,
+        brokers: ListOf::new(Vec::new(alloc)),
+        goals: ListOf::new(Vec::new(alloc)),
+        skip: false,
+        excluded: ListOf::new(Vec::new(alloc)),
+        dryrun: flag_in(pairs, "dryrun", true),
+        topics: names_at(alloc, pairs, "topic")?,
+        factor: factor_in(pairs),
     })
 }
 
@@ -198,6 +242,9 @@ fn missing_name(endpoint: Endpoint, pairs: &[Pair]) -> Option<&'static str>
             unless_there(pairs, "brokerid")
         }
         Endpoint::Kill => unless_there(pairs, "broker"),
+        Endpoint::Detect => unless_there(pairs, "now"),
+        Endpoint::TopicConfiguration if !has_name(pairs, "topic") => Some("topic"),
+        Endpoint::TopicConfiguration => unless_there(pairs, "replication_factor"),
         Endpoint::Admin if !has_cap(pairs) => Some(BROKER_CAP),
         _ => None,
     }
@@ -239,11 +286,47 @@ fn submitted(alloc: Global, ask: Ask, key: Option<&Bytes>) -> Result<Call, HttpF
 
 // A request for a plan.
 fn plan_call(alloc: Global, op: Op, pairs: &[Pair], raw: &RawRequest) -> Result<Call, HttpFault>
+    requires { changes_topics op ≡ false }
     ensures is { UnlessMemory result (submitted (ask_of op pairs.now) raw.now.key) }
     ensures range { IfOk result IsInRange }
 {
     let ask = ask_of(alloc, op, pairs)?;
     submitted(alloc, ask, raw.key.as_ref())
+}
+
+// A request for another replication factor.
+fn change_call(alloc: Global, pairs: &[Pair], raw: &RawRequest) -> Result<Call, HttpFault>
+    ensures is { UnlessMemory result (submitted (change_of pairs.now) raw.now.key) }
+    ensures range { IfOk result IsInRange }
+{
+    let ask = change_of(alloc, pairs)?;
+    submitted(alloc, ask, raw.key.as_ref())
+}
+
+// A moment or an age.
+fn moment_in(pairs: &[Pair], name: &str, default: u64) -> u64
+    requires { default < 2 ^ 53 }
+    ensures value { result ≡ moment_in name.now default pairs.now }
+    ensures range { result < 2 ^ 53 }
+{
+    match value_of(pairs, name) {
+        Some(value) => moment_of(value).unwrap_or(default),
+        None => default,
+    }
+}
+
+// What is to be done about lost brokers and broken goals.
+fn detect_call(alloc: Global, pairs: &[Pair]) -> Result<Call, HttpFault>
+    ensures is { UnlessMemory result (detect_call pairs.now) }
+    ensures range { IfOk result IsInRange }
+{
+    let now = moment_in(pairs, "now", 0);
+    let alert = moment_in(pairs, "alert_ms", ALERT_AGE);
+    let heal = moment_in(pairs, "heal_ms", HEAL_AGE);
+    if heal < alert {
+        return Err(bad_parameter(alloc, "heal_ms"));
+    }
+    Ok(Call::Detect(now, alert, heal))
 }
 
 // A sample.
@@ -322,6 +405,8 @@ fn called(
         Endpoint::AddBroker => plan_call(alloc, Op::AddBroker, pairs, raw),
         Endpoint::RemoveBroker => plan_call(alloc, Op::RemoveBroker, pairs, raw),
         Endpoint::DemoteBroker => plan_call(alloc, Op::DemoteBroker, pairs, raw),
+        Endpoint::TopicConfiguration => change_call(alloc, pairs, raw),
+        Endpoint::Detect => detect_call(alloc, pairs),
         Endpoint::StopExecution => Ok(Call::Stop(flag_in(pairs, "force_stop", false))),
         Endpoint::Admin => Ok(caps_call(pairs)),
         Endpoint::Pump => Ok(Call::Pump(steps_in(pairs))),

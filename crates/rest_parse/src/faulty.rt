@@ -3,7 +3,9 @@ ghost use Rattle.std.specs.Prelude.{◌≡◌, [], option_map, IfOk};
 ghost use Rattle.rest_parse.specs.Parameters.{bad_name, has_form, is_bad, is_taken};
 
 use crate::lists::id_list;
-use crate::parameters::{Parameter, accepts, cap_of, id_of, parameter_of, steps_of, truth_of};
+use crate::parameters::{
+    Parameter, accepts, cap_of, factor_of, id_of, moment_of, parameter_of, steps_of, truth_of,
+};
 use crate::query::{Pair, has_name};
 use crate::routes::Endpoint;
 use std::alloc::{AllocError, Global};
@@ -23,6 +25,9 @@ fn has_form(alloc: Global, parameter: Parameter, value: &str) -> Result<bool, Al
         Parameter::BrokerCap | Parameter::ClusterCap | Parameter::LeaderCap => {
             cap_of(value).is_some()
         }
+        Parameter::Topics => !value.is_empty(),
+        Parameter::Factor => factor_of(value).is_some(),
+        Parameter::Now | Parameter::AlertAge | Parameter::HealAge => moment_of(value).is_some(),
     })
 }
 

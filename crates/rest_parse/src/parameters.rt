@@ -1,6 +1,6 @@
 // The parameters of the endpoints.
-ghost use Rattle.std.specs.Prelude.{◌≡◌, ◌≤◌, IfSome};
-ghost use Rattle.rest_parse.specs.Parameters.{IsCap, accepts, cap_of, id_of, is_plan, parameter_of, steps_of, truth_of};
+ghost use Rattle.std.specs.Prelude.{◌≡◌, ◌≤◌, ◌<◌, ◌^◌, IfSome};
+ghost use Rattle.rest_parse.specs.Parameters.{IsCap, accepts, cap_of, factor_of, id_of, is_plan, moment_of, parameter_of, steps_of, truth_of};
 
 use crate::routes::Endpoint;
 use plan_terms::read_whole;
@@ -19,6 +19,11 @@ pub enum Parameter {
     BrokerCap,
     ClusterCap,
     LeaderCap,
+    Topics,
+    Factor,
+    Now,
+    AlertAge,
+    HealAge,
     /// It is accepted everywhere and says nothing.
     Unused,
 }
@@ -40,6 +45,11 @@ pub fn parameter_of(name: &str) -> Option<Parameter>
         "concurrent_partition_movements_per_broker" => Some(Parameter::BrokerCap),
         "max_partition_movements_in_cluster" => Some(Parameter::ClusterCap),
         "concurrent_leader_movements" => Some(Parameter::LeaderCap),
+        "topic" => Some(Parameter::Topics),
+        "replication_factor" => Some(Parameter::Factor),
+        "now" => Some(Parameter::Now),
+        "alert_ms" => Some(Parameter::AlertAge),
+        "heal_ms" => Some(Parameter::HealAge),
         "json" | "verbose" | "reason" | "allow_capacity_estimation" => Some(Parameter::Unused),
         _ => None,
     }
@@ -72,6 +82,14 @@ pub fn accepts(endpoint: Endpoint, parameter: Parameter) -> bool
         Endpoint::Admin => matches!(
             parameter,
             Parameter::BrokerCap | Parameter::ClusterCap | Parameter::LeaderCap | Parameter::Unused
+        ),
+        Endpoint::TopicConfiguration => matches!(
+            parameter,
+            Parameter::Topics | Parameter::Factor | Parameter::DryRun | Parameter::Unused
+        ),
+        Endpoint::Detect => matches!(
+            parameter,
+            Parameter::Now | Parameter::AlertAge | Parameter::HealAge | Parameter::Unused
         ),
         Endpoint::Pump => matches!(parameter, Parameter::Steps | Parameter::Unused),
         Endpoint::Kill => matches!(parameter, Parameter::Broker | Parameter::Unused),
@@ -125,6 +143,29 @@ pub fn cap_of(text: &str) -> Option<u32>
 {
     match read_whole(text) {
         Some(n) if 1 <= n && n <= 10_000 => Some(n as u32),
+        _ => None,
+    }
+}
+
+/// A replication factor: 1 to 8.
+pub fn factor_of(text: &str) -> Option<u32>
+    ensures value { result ≡ factor_of text.now }
+    ensures some { IfSome result (λ n. 1 ≤ n) }
+    ensures few { IfSome result (λ n. n ≤ 8) }
+{
+    match read_whole(text) {
+        Some(n) if 1 <= n && n <= 8 => Some(n as u32),
+        _ => None,
+    }
+}
+
+/// A moment, or an age, in milliseconds: below 2^53.
+pub fn moment_of(text: &str) -> Option<u64>
+    ensures value { result ≡ moment_of text.now }
+    ensures range { IfSome result (λ n. n < 2 ^ 53) }
+{
+    match read_whole(text) {
+        Some(n) if n < 1 << 53 => Some(n),
         _ => None,
     }
 }

@@ -1,7 +1,7 @@
 // The endpoints and their paths.
 ghost use Rattle.std.specs.Prelude.{◌≡◌, [], IfOk, OnOk, option_map};
 ghost use Rattle.matchit.specs.Seek.{first};
-ghost use Rattle.rest_parse.specs.Routes.{endpoint_at, first_five, first_nine, is_read, rows, rows_of};
+ghost use Rattle.rest_parse.specs.Routes.{endpoint_at, first_five, first_ten, is_read, rows, rows_of};
 
 use matchit::{InsertError, Router};
 use plan_terms::Memory;
@@ -33,12 +33,16 @@ pub enum Endpoint {
     StopExecution,
     /// `POST /kafkacruisecontrol/admin`
     Admin,
+    /// `POST /kafkacruisecontrol/topic_configuration`
+    TopicConfiguration,
     /// `POST /cluster/pump`
     Pump,
     /// `POST /cluster/kill`
     Kill,
     /// `POST /cluster/sample`
     Sample,
+    /// `POST /cluster/detect`
+    Detect,
 }
 
 impl Endpoint {
@@ -83,17 +87,21 @@ fn add_shown(router: &mut Router<Endpoint>) -> Result<(), InsertError>
 
 fn add_plans(router: &mut Router<Endpoint>) -> Result<(), InsertError>
     requires { router.old ≡ rows_of first_five }
-    ensures { OnOk result (router.new ≡ rows_of first_nine) }
+    ensures { OnOk result (router.new ≡ rows_of first_ten) }
 {
     router.insert("/kafkacruisecontrol/rebalance", Endpoint::Rebalance)?;
     router.insert("/kafkacruisecontrol/add_broker", Endpoint::AddBroker)?;
     router.insert("/kafkacruisecontrol/remove_broker", Endpoint::RemoveBroker)?;
     router.insert("/kafkacruisecontrol/demote_broker", Endpoint::DemoteBroker)?;
+    router.insert(
+        "/kafkacruisecontrol/topic_configuration",
+        Endpoint::TopicConfiguration,
+    )?;
     Ok(())
 }
 
 fn add_others(router: &mut Router<Endpoint>) -> Result<(), InsertError>
-    requires { router.old ≡ rows_of first_nine }
+    requires { router.old ≡ rows_of first_ten }
     ensures { OnOk result (router.new ≡ rows) }
 {
     router.insert(
@@ -104,6 +112,7 @@ fn add_others(router: &mut Router<Endpoint>) -> Result<(), InsertError>
     router.insert("/cluster/pump", Endpoint::Pump)?;
     router.insert("/cluster/kill", Endpoint::Kill)?;
     router.insert("/cluster/sample", Endpoint::Sample)?;
+    router.insert("/cluster/detect", Endpoint::Detect)?;
     Ok(())
 }
 

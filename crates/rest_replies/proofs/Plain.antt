@@ -1,11 +1,15 @@
 -- Bodies are plain: their numbers are whole, and they nest no deeper than a reader of JSON goes.
-use Rattle.std.proofs.Common.{◌≡◌, ℕ, Bool, List, [], ◌∷◌, map, false, refl, ◌≤◌, arith}
-use Rattle.serde_json.specs.Data.{Data, depth, items_depth}
+use Rattle.std.proofs.Common.{◌≡◌, ℕ, Bool, List, [], map, false, refl, ◌≤◌, arith}
+use Rattle.serde_json.specs.Data.{depth, items_depth}
 use Rattle.serde_json.specs.View.{items_of}
 use Rattle.serde_json.specs.Written.{has_float, items_have_float}
 use Rattle.plain_json.proofs.Items.{whole_items, flat_items, whole_numbers, flat_numbers}
 use Rattle.plan_terms.specs.declared.settings.Caps.{Caps}
 use Rattle.goal_set.specs.declared.kinds.GoalKind.{GoalKind}
+use Rattle.goal_set.specs.declared.cause.Cause.{Cause}
+use Rattle.goal_set.specs.declared.cause.Cause.TheVariants as cause
+use Rattle.anomaly_detector.specs.declared.decision.Decision.{Decision}
+use Rattle.anomaly_detector.specs.declared.decision.Decision.TheVariants as decision
 use Rattle.exec_terms.specs.declared.replies.Stopped.{Stopped}
 use Rattle.exec_terms.specs.declared.replies.Killed.{Killed}
 use Rattle.user_tasks.specs.declared.table.Status.{Status}
@@ -14,7 +18,7 @@ use Rattle.core_terms.specs.declared.shows.PartShown.{PartShown}
 use Rattle.core_terms.specs.declared.shows.Shown.{Shown}
 use Rattle.core_terms.specs.declared.shows.Shown.TheVariants as shown
 use Rattle.rest_replies.specs.Answers.{shown_data}
-use Rattle.rest_replies.specs.Bodies.{broker_data, caps_data, done_data, ended_data, error_data, failed_data, killed_data, open_data, part_data, proposal_data, pumped_data, sampled_data, stopped_data, task_data}
+use Rattle.rest_replies.specs.Bodies.{anomaly_data, broker_data, caps_data, cause_data, decided_data, done_data, ended_data, error_data, failed_data, killed_data, open_data, part_data, proposal_data, pumped_data, sampled_data, stopped_data, task_data}
 use Rattle.rest_replies.specs.Plain.{IsPlain}
 
 whole_proposal : (p : Named) → has_float (proposal_data p) ≡ false
@@ -61,6 +65,19 @@ sampled_plain = record { whole = refl; shallow = omega arith }
 
 pub caps_plain : (c : Caps) → IsPlain (caps_data c)
 caps_plain c = record { whole = refl; shallow = omega arith }
+
+anomaly_plain : (name brokers : List ℕ) → IsPlain (anomaly_data name brokers)
+anomaly_plain name brokers = record { whole = rw (whole_numbers brokers) refl; shallow = omega (arith, flat_numbers brokers) }
+
+cause_plain : (why : Cause) → IsPlain (cause_data why)
+cause_plain (cause.BrokerFailure brokers) = anomaly_plain _ brokers
+cause_plain (cause.GoalViolation goal) = anomaly_plain _ []
+
+pub decided_plain : (d : Decision) → IsPlain (decided_data d)
+decided_plain (decision.Fix why ask) = cause_plain why
+decided_plain (decision.Alert brokers) = anomaly_plain _ brokers
+decided_plain (decision.Waiting brokers) = anomaly_plain _ brokers
+decided_plain decision.Fine = anomaly_plain _ []
 
 pub pumped_plain : (done : ℕ) (idle : Bool) → IsPlain (pumped_data done idle)
 pumped_plain done idle = record { whole = refl; shallow = omega arith }

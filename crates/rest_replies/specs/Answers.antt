@@ -13,7 +13,7 @@ use Rattle.core_terms.specs.declared.replies.Reply.{Reply}
 use Rattle.core_terms.specs.declared.replies.Reply.TheVariants as reply
 use Rattle.core_terms.specs.declared.shows.Shown.{Shown}
 use Rattle.core_terms.specs.declared.shows.Shown.TheVariants as shown
-use Rattle.rest_replies.specs.Bodies.{caps_data, cluster_data, done_data, ended_data, error_data, failed_data, killed_data, loads_data, open_data, pumped_data, sampled_data, state_data, stopped_data, tasks_data}
+use Rattle.rest_replies.specs.Bodies.{caps_data, cluster_data, decided_data, done_data, ended_data, error_data, failed_data, killed_data, loads_data, open_data, pumped_data, sampled_data, state_data, stopped_data, tasks_data}
 use Rattle.rest_replies.specs.Refusals.{Refused, core_refusal, http_refusal, no_memory, step_refusal, stop_refusal, with_number}
 use Rattle.rest_replies.specs.Texts.{head_text, reply_text}
 use Rattle.rest_replies.specs.declared.answer.Answer.{Answer}
@@ -82,6 +82,7 @@ abbrev pub answer_of : Told → Option AnswerView
 answer_of (told.Core r) = core_answer r
 answer_of (told.Step fault) = option_map refused (step_refusal fault)
 answer_of (told.Pump end) = pump_answer end
+answer_of (told.Decided d) = Some (ok_answer (decided_data d))
 answer_of (told.Http fault) = option_map refused (http_refusal fault)
 answer_of (told.Stopped why) = option_map refused (stop_refusal why)
 

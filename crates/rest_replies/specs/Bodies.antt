@@ -1,5 +1,5 @@
 -- The bodies of replies, as JSON: keys stand in the order of their bytes, and each body has `version` 1.
-use Rattle.std.specs.Prelude.{ℕ, min, Bool, true, List, map, codes, decimal}
+use Rattle.std.specs.Prelude.{ℕ, min, Bool, true, List, [], map, codes, decimal}
 use Rattle.serde_json.specs.Data.{Data, boolean, string, array, object, member, no_members, Members}
 use Rattle.serde_json.specs.View.{items_of}
 use Rattle.plain_json.specs.Numbers.{number_data, numbers_data}
@@ -7,6 +7,10 @@ use Rattle.uuid.specs.Text.{hyphenated_text, lower}
 use Rattle.plan_terms.specs.declared.settings.Caps.{Caps}
 use Rattle.goal_set.specs.declared.kinds.GoalKind.{GoalKind}
 use Rattle.goal_set.specs.Kinds.{name_of}
+use Rattle.goal_set.specs.declared.cause.Cause.{Cause}
+use Rattle.goal_set.specs.declared.cause.Cause.TheVariants as cause
+use Rattle.anomaly_detector.specs.declared.decision.Decision.{Decision}
+use Rattle.anomaly_detector.specs.declared.decision.Decision.TheVariants as decision
 use Rattle.exec_terms.specs.declared.replies.Stopped.{Stopped}
 use Rattle.exec_terms.specs.declared.replies.Killed.{Killed}
 use Rattle.exec_terms.specs.declared.tally.PhaseCounts.{PhaseCounts}
@@ -84,6 +88,22 @@ caps_data c = object (member (codes "broker") (number_data c.broker) (member (co
 -- the end of a pump
 abbrev pub pumped_data : ℕ → Bool → Data
 pumped_data done idle = object (member (codes "done") (number_data done) (member (codes "idle") (boolean idle) version))
+
+-- an anomaly and its brokers
+abbrev pub anomaly_data : List ℕ → List ℕ → Data
+anomaly_data name brokers = object (member (codes "anomaly") (string name) (member (codes "brokers") (numbers_data brokers) version))
+
+-- a fix by its cause
+abbrev pub cause_data : Cause → Data
+cause_data (cause.BrokerFailure brokers) = anomaly_data (codes "BROKER_FAILURE") brokers
+cause_data (cause.GoalViolation goal) = anomaly_data (codes "GOAL_VIOLATION") []
+
+-- what is to be done about lost brokers and broken goals
+abbrev pub decided_data : Decision → Data
+decided_data (decision.Fix why ask) = cause_data why
+decided_data (decision.Alert brokers) = anomaly_data (codes "ALERT") brokers
+decided_data (decision.Waiting brokers) = anomaly_data (codes "WAITING") brokers
+decided_data decision.Fine = anomaly_data (codes "NONE") []
 
 -- the tasks of the last execution by phase, and what the executor does
 abbrev pub executor_data : PhaseCounts → ExecutorState → Data

@@ -42,6 +42,7 @@ endpoint_text op.Rebalance = codes "rebalance"
 endpoint_text op.AddBroker = codes "add_broker"
 endpoint_text op.RemoveBroker = codes "remove_broker"
 endpoint_text op.DemoteBroker = codes "demote_broker"
+endpoint_text op.TopicConfiguration = codes "topic_configuration"
 
 -- the state of a broker, as a cluster file has it
 abbrev pub broker_state_text : BrokerState → List ℕ

@@ -2,13 +2,14 @@
 ghost use Rattle.std.specs.Prelude.{◌≡◌, Some, option_map, IfOk};
 ghost use Rattle.serde_json.specs.View.{view};
 ghost use Rattle.rest_replies.specs.Answers.{answer_of, answer_seen, core_answer, core_result, ok_answer, pump_answer, refused, shown_data, task_answer};
+ghost use Rattle.rest_replies.specs.Bodies.{decided_data};
 ghost use Rattle.rest_replies.specs.Plain.{IsPlain};
 ghost use Rattle.rest_replies.specs.Refusals.{refusal_seen};
 
 use crate::answer::Answer;
 use crate::bodies::{
-    caps_value, done_value, ended_value, error_value, failed_value, killed_value, open_value,
-    pumped_value, sampled_value, stopped_value,
+    caps_value, decided_value, done_value, ended_value, error_value, failed_value, killed_value,
+    open_value, pumped_value, sampled_value, stopped_value,
 };
 use crate::refusals::{
     Refusal, core_refusal, http_refusal, no_memory, step_refusal, stop_refusal, with_number,
@@ -16,6 +17,7 @@ use crate::refusals::{
 use crate::shows::shown_value;
 use crate::texts::Code;
 use crate::told::Told;
+use anomaly_detector::Decision;
 use core_terms::{Outcome, PumpEnd, Reply, Shown};
 use plan_terms::Memory;
 use serde_json::Value;
@@ -132,6 +134,14 @@ fn core_answer(alloc: Global, reply: &Reply) -> Result<Option<Answer>, Memory>
     }
 }
 
+// The reply that tells what is to be done.
+fn decided_answer(alloc: Global, decision: &Decision) -> Result<Answer, Memory>
+    ensures { IfOk result (λ a. answer_seen a ≡ ok_answer (decided_data decision.now)) }
+{
+    let body = decided_value(alloc, decision)?;
+    Ok(ok(body))
+}
+
 // The reply of the end of a pump.
 fn pump_answer(alloc: Global, end: PumpEnd) -> Result<Option<Answer>, Memory>
     ensures { IfOk result (λ o. option_map answer_seen o ≡ pump_answer end) }
@@ -160,6 +170,7 @@ pub fn answer_of(alloc: Global, told: &Told) -> Result<Option<Answer>, Memory>
             refused(alloc, refusal)
         }
         Told::Pump(end) => pump_answer(alloc, *end),
+        Told::Decided(decision) => Ok(Some(decided_answer(alloc, decision)?)),
         Told::Http(fault) => {
             let refusal = http_refusal(alloc, fault)?;
             refused(alloc, refusal)

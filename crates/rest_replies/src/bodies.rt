@@ -2,12 +2,13 @@
 ghost use Rattle.std.specs.Prelude.{◌≡◌, map, IfOk};
 ghost use Rattle.serde_json.specs.Data.{array};
 ghost use Rattle.serde_json.specs.View.{items_of, view};
-ghost use Rattle.rest_replies.specs.Bodies.{caps_data, done_data, ended_data, error_data, failed_data, killed_data, open_data, proposal_data, proposals_data, pumped_data, sampled_data, stopped_data};
+ghost use Rattle.rest_replies.specs.Bodies.{anomaly_data, caps_data, decided_data, done_data, ended_data, error_data, failed_data, killed_data, open_data, proposal_data, proposals_data, pumped_data, sampled_data, stopped_data};
 
 use crate::texts::task_status_text;
+use anomaly_detector::Decision;
 use core_terms::Named;
 use exec_terms::{Killed, Stopped};
-use goal_set::GoalKind;
+use goal_set::{Cause, GoalKind};
 use plain_json::numbers_value;
 use plan_terms::{Caps, Memory};
 use serde_json::{Value, json};
@@ -160,6 +161,32 @@ pub fn caps_value(alloc: Global, caps: &Caps) -> Result<Value, Memory>
         "leader": (caps.leader),
         "version": 1u64
     })?)
+}
+
+// An anomaly and its brokers.
+fn anomaly_value(alloc: Global, name: &str, brokers: &[u32]) -> Result<Value, Memory>
+    ensures { IfOk result (λ v. view v ≡ anomaly_data name.now brokers.now) }
+{
+    Ok(json!(in alloc; {
+        "anomaly": name,
+        "brokers": (numbers_value(alloc, brokers)?),
+        "version": 1u64
+    })?)
+}
+
+/// What is to be done about lost brokers and broken goals.
+pub fn decided_value(alloc: Global, decision: &Decision) -> Result<Value, Memory>
+    ensures { IfOk result (λ v. view v ≡ decided_data decision.now) }
+{
+    match decision {
+        Decision::Fix(Cause::BrokerFailure(brokers), _) => {
+            anomaly_value(alloc, "BROKER_FAILURE", brokers.as_slice())
+        }
+        Decision::Fix(Cause::GoalViolation(_), _) => anomaly_value(alloc, "GOAL_VIOLATION", &[]),
+        Decision::Alert(brokers) => anomaly_value(alloc, "ALERT", brokers.as_slice()),
+        Decision::Waiting(brokers) => anomaly_value(alloc, "WAITING", brokers.as_slice()),
+        Decision::Fine => anomaly_value(alloc, "NONE", &[]),
+    }
 }
 
 /// The end of a pump.

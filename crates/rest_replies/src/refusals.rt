@@ -150,6 +150,8 @@ pub fn core_refusal(alloc: Global, reply: &Reply) -> Result<Option<Refusal>, Mem
         Reply::Executing(id) => with_id(alloc, conflict, "execution unfinished: ", *id),
         Reply::TooManyActive => plain(alloc, Code::TooManyRequests, "16 tasks are active"),
         Reply::NotEnoughWindows(valid, all) => windows_refusal(alloc, *valid, *all),
+        Reply::NoSuchTopic(topic) => with_name(alloc, bad, "no such topic: ", topic.as_str()),
+        Reply::TooFewBrokers(n) => with_number(alloc, conflict, "too few brokers: ", u64::from(*n)),
         Reply::NothingToStop => plain(alloc, conflict, "nothing to stop"),
         Reply::AlreadyDead(id) => with_number(alloc, conflict, "already dead: ", u64::from(*id)),
         Reply::NoSuchPartition => plain(alloc, bad, "no such partition"),

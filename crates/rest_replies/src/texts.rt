@@ -79,6 +79,7 @@ pub fn endpoint_text(op: Op) -> &'static str
         Op::AddBroker => "add_broker",
         Op::RemoveBroker => "remove_broker",
         Op::DemoteBroker => "demote_broker",
+        Op::TopicConfiguration => "topic_configuration",
     }
 }
 

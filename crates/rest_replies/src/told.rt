@@ -1,4 +1,5 @@
 // What is told to a client.
+use anomaly_detector::Decision;
 use core_terms::{PumpEnd, Reply, StepFault};
 use rest_parse::HttpFault;
 use rest_stream::Stop;
@@ -12,6 +13,8 @@ pub enum Told {
     Step(StepFault),
     /// The end of a pump.
     Pump(PumpEnd),
+    /// What is to be done about lost brokers and broken goals.
+    Decided(Decision),
     /// Why the request means nothing.
     Http(HttpFault),
     /// Why there is no further request.

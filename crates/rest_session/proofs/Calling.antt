@@ -39,6 +39,7 @@ inward (call.Sample topic number time loads) e h = ap is_outward (sym (once_is _
 inward (call.Show query) e h = ap is_outward (sym (once_is _ e h))
 inward (call.Caps a b c) e h = ap is_outward (sym (once_is _ e h))
 inward (call.Pump steps) e h = absurd cc
+inward (call.Detect now alert heal) e h = absurd cc
 
 -- nor does one tell a copy to have failed
 pub unfailing : (c : Call) (e : Event) → asked_by c ≡ asked.Once e → failed_in e ≡ 0
@@ -49,6 +50,7 @@ unfailing (call.Sample topic number time loads) e h = ap failed_in (sym (once_is
 unfailing (call.Show query) e h = ap failed_in (sym (once_is _ e h))
 unfailing (call.Caps a b c) e h = ap failed_in (sym (once_is _ e h))
 unfailing (call.Pump steps) e h = absurd cc
+unfailing (call.Detect now alert heal) e h = absurd cc
 
 pub once_done : (v w : Known) (k : Copies) (e : Event) (t : Told) → failed_in e ≡ 0 → IsAskedOnce v w e t → HasDone v w k k (asked.Once e) t
 once_done v w k e (told.Core r) quiet h = record {
@@ -81,10 +83,12 @@ called_by v w k l c m (told.Core r) e h = record { made = h.made; copies = h.cop
 called_by v w k l c m (told.Step f) e h = record { made = h.made; copies = h.copies; own = h.own; copied = h.copied; is = (c, e, h.is); failed = h.failed; rules = h.rules; longer = h.longer }
 called_by v w k l c m (told.Pump f) e h = record { made = h.made; copies = h.copies; own = h.own; copied = h.copied; is = (c, e, h.is); failed = h.failed; rules = h.rules; longer = h.longer }
 called_by v w k l c m (told.Stopped f) e h = record { made = h.made; copies = h.copies; own = h.own; copied = h.copied; is = (c, e, h.is); failed = h.failed; rules = h.rules; longer = h.longer }
+called_by v w k l c m (told.Decided d) e h = record { made = h.made; copies = h.copies; own = h.own; copied = h.copied; is = (c, e, h.is); failed = h.failed; rules = h.rules; longer = h.longer }
 called_by v w k l c m (told.Http f) e h = absurd (none (asked_by c) h.is) where
   none : (a : Asked) → IsDone v.rules w.seen a (told.Http f) h.made h.copies → ⊥
   none (asked.Once x) i = i
   none (asked.Rounds n) i = i
+  none (asked.Detects now alert heal) i = i
 
 pub fault_called : (v : Known) (k : Copies) (meaning : Result Call HttpFault) (f : HttpFault) → UnlessMemory {T = Call} (Err f) meaning → HasCalled v v k k meaning (told.Http f)
 fault_called v k m f h = record {

@@ -1,5 +1,6 @@
 pub mod Calling
+pub mod Detecting
 pub mod Refusing
 pub mod Serving
-pub mod Unclosed
+pub mod Spared
 pub mod Sessions

@@ -39,11 +39,16 @@ done_later r s t p (asked.Once e) (told.Step f) m c h = h
 done_later r s t p (asked.Once e) _ m c h = absurd h
 done_later r s t p (asked.Rounds n) (told.Pump end) m c h = pumped_later r s t p n end m c h
 done_later r s t p (asked.Rounds n) _ m c h = absurd h
+done_later r s t p (asked.Detects now alert heal) (told.Core y) m c h = h
+done_later r s t p (asked.Detects now alert heal) (told.Decided d) m c h = h
+done_later r s t p (asked.Detects now alert heal) (told.Step f) m c h = h
+done_later r s t p (asked.Detects now alert heal) _ m c h = absurd h
 
 called_later : (r : Rules) (s t : List Event) → IsPrefix s t → (means : Result Call HttpFault) (x : Told) (m : List Entry) (c : List ChunkCopy) → IsCalled r s means x m c → IsCalled r t means x m c
 called_later r s t p means (told.Http f) m c h = h
 called_later r s t p means (told.Core y) m c h = (h.0, h.1, done_later r s t p (asked_by h.0) (told.Core y) m c h.2)
 called_later r s t p means (told.Step y) m c h = (h.0, h.1, done_later r s t p (asked_by h.0) (told.Step y) m c h.2)
+called_later r s t p means (told.Decided y) m c h = (h.0, h.1, done_later r s t p (asked_by h.0) (told.Decided y) m c h.2)
 called_later r s t p means (told.Pump y) m c h = (h.0, h.1, done_later r s t p (asked_by h.0) (told.Pump y) m c h.2)
 called_later r s t p means (told.Stopped y) m c h = (h.0, h.1, done_later r s t p (asked_by h.0) (told.Stopped y) m c h.2)
 

@@ -22,7 +22,7 @@ use Rattle.mover_rounds.proofs.Working.{no_copies, risen_none}
 use Rattle.rest_session.specs.Answered.{HasServed, IsBlamed, IsServed}
 use Rattle.rest_session.specs.Sessions.{IsSession, drain_fault}
 use Rattle.rest_session.specs.declared.session.LinkEnd.{LinkEnd}
-use Rattle.rest_session.proofs.Unclosed.{served_open}
+use Rattle.rest_session.proofs.Spared.{served_open}
 
 -- no round was made
 pub drained_none : {A : Type 0} (b : BookView A) (k : Copies) → HasDrainedAlone (known_by_owner b) (known_by_owner b) k k drain.Memory

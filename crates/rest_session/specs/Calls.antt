@@ -1,9 +1,14 @@
 -- What a request asks of the core, and what it is told.
-use Rattle.std.specs.Prelude.{◌≡◌, List, [], ◌∷◌, Result, Ok, Err}
+use Rattle.std.specs.Prelude.{◌≡◌, ◌⊎◌, ℕ, List, [], ◌∷◌, Result, Ok, Err}
 use Rattle.cluster_gate.specs.declared.copier.ChunkCopy.{ChunkCopy}
 use Rattle.core_terms.specs.declared.events.Event.{Event}
 use Rattle.core_terms.specs.declared.events.Event.TheVariants as event
+use Rattle.anomaly_detector.specs.Decided.{decided}
+use Rattle.anomaly_detector.specs.declared.decision.Decision.{Decision}
+use Rattle.anomaly_detector.specs.declared.decision.Decision.TheVariants as decision
 use Rattle.core_terms.specs.declared.faults.StepFault.TheVariants as step
+use Rattle.core_terms.specs.declared.replies.Reply.{Reply}
+use Rattle.core_terms.specs.declared.replies.Reply.TheVariants as reply
 use Rattle.mover_rounds.specs.Asked.{Entry, HasAsked, IsUnasked, Known, Rules, reply_to}
 use Rattle.mover_rounds.specs.Made.{Copies, HasMade, IsPumped}
 use Rattle.rest_parse.specs.Calls.{UnlessMemory}
@@ -15,7 +20,7 @@ use Rattle.rest_replies.specs.declared.told.Told.TheVariants as told
 use Rattle.rest_session.specs.declared.calls.Asked.{Asked}
 use Rattle.rest_session.specs.declared.calls.Asked.TheVariants as asked
 
--- the event that a call is, or so many rounds
+-- the event that a call is, or so many rounds, or a look with what follows
 abbrev pub asked_by : Call → Asked
 asked_by (call.Submit ask id) = asked.Once (event.Submit ask id)
 asked_by (call.Stop force) = asked.Once (event.Stop force)
@@ -23,18 +28,47 @@ asked_by (call.Kill broker) = asked.Once (event.Kill broker)
 asked_by (call.Sample topic number time loads) = asked.Once (event.Sample topic number time loads)
 asked_by (call.Show query) = asked.Once (event.Show query)
 asked_by (call.Pump steps) = asked.Rounds steps
+asked_by (call.Detect now alert heal) = asked.Detects now alert heal
 asked_by (call.Caps of_broker of_cluster of_leaders) = asked.Once (event.Caps (record { broker = of_broker; cluster = of_cluster; leader = of_leaders }))
 
 -- no entry, and no copy
 abbrev pub IsNothing : List Entry → List ChunkCopy → Type 0
 IsNothing made copies = (made ≡ []) × (copies ≡ [])
 
+-- what is told of a decision, with the entry that it leads to: a fix is asked with its cause, and what that is answered is told; any
+-- other decision is told itself
+abbrev pub IsDecided : Rules → Decision → Told → List Entry → Type 0
+IsDecided rules (decision.Fix why ask) (told.Core r) made = (x : Entry) × (made ≡ x ∷ []) × (x.event ≡ event.Heal why ask) × (reply_to rules x ≡ r)
+IsDecided rules (decision.Fix why ask) t made = ⊥
+IsDecided rules d t made = (t ≡ told.Decided d) × (made ≡ [])
+
+-- so of what a look was answered: where it shows which brokers are lost, it is decided by that; else the answer is told
+abbrev pub IsLooked : Rules → ℕ → ℕ → ℕ → Reply → Told → List Entry → Type 0
+IsLooked rules now alert heal (reply.Looked v) t made = IsDecided rules (decided now alert heal v.since v.case v.lists) t made
+IsLooked rules now alert heal r t made = (t ≡ told.Core r) × (made ≡ [])
+
+-- a look at this moment, and what follows
+pub record IsDetected (rules : Rules) (now alert heal : ℕ) (t : Told) (made : List Entry) : Type 0 where
+  pub look : Entry
+  pub rest : List Entry
+  pub made_is : made ≡ look ∷ rest
+  pub asks : look.event ≡ event.Look now
+  pub looked : IsLooked rules now alert heal (reply_to rules look) t rest
+
+-- no entry, or the look alone
+abbrev pub IsCutShort : ℕ → List Entry → Type 0
+IsCutShort now made = (made ≡ []) ⊎ ((x : Entry) × (made ≡ x ∷ []) × (x.event ≡ event.Look now))
+
 -- the own entries and copies of what is asked, and what it is told: one event has its one entry, and is told the reply at its place, or
--- want of memory without an entry; a pump has its rounds
+-- want of memory without an entry; a pump has its rounds; what is asked of the detector has a look and what follows, or where memory runs
+-- out no more than the look
 abbrev pub IsDone : Rules → List Event → Asked → Told → List Entry → List ChunkCopy → Type 0
 IsDone rules seen (asked.Once e) (told.Core r) made copies = ((x : Entry) × (made ≡ x ∷ []) × (x.event ≡ e) × (reply_to rules x ≡ r)) × (copies ≡ [])
 IsDone rules seen (asked.Once e) (told.Step f) made copies = (f ≡ step.Memory) × IsNothing made copies
 IsDone rules seen (asked.Rounds n) (told.Pump end) made copies = IsPumped rules seen n end made copies
+IsDone rules seen (asked.Detects now alert heal) (told.Core r) made copies = IsDetected rules now alert heal (told.Core r) made × (copies ≡ [])
+IsDone rules seen (asked.Detects now alert heal) (told.Decided d) made copies = IsDetected rules now alert heal (told.Decided d) made × (copies ≡ [])
+IsDone rules seen (asked.Detects now alert heal) (told.Step f) made copies = (f ≡ step.Memory) × IsCutShort now made × (copies ≡ [])
 IsDone rules seen _ _ made copies = ⊥
 
 -- the same of what a request means: a call; or a fault, which is told and has no entry. Where memory runs out before it is known what
@@ -48,6 +82,17 @@ abbrev pub IsAskedOnce : Known → Known → Event → Told → Type 0
 IsAskedOnce v w e (told.Core r) = HasAsked v w e r
 IsAskedOnce v w e (told.Step f) = (f ≡ step.Memory) × IsUnasked v w e f
 IsAskedOnce v w e _ = ⊥
+
+-- a fix was asked; any other decision asks nothing
+abbrev pub HasHealed : Known → Known → Decision → Told → Type 0
+HasHealed v w (decision.Fix why ask) t = IsAskedOnce v w (event.Heal why ask) t
+HasHealed v w d t = (w ≡ v) × (t ≡ told.Decided d)
+
+-- what follows a look that was answered so: where it shows which brokers are lost, what is decided by that is done, or there was no
+-- memory for it; any other answer is told
+abbrev pub HasFollowed : Known → Known → ℕ → ℕ → ℕ → Reply → Told → Type 0
+HasFollowed v w now alert heal (reply.Looked s) t = HasHealed v w (decided now alert heal s.since s.case s.lists) t ⊎ ((w ≡ v) × (t ≡ told.Step step.Memory))
+HasFollowed v w now alert heal r t = (w ≡ v) × (t ≡ told.Core r)
 
 -- what a call has made, and what a request has
 abbrev pub HasDone : Known → Known → Copies → Copies → Asked → Told → Type 0

@@ -1,3 +1,4 @@
 pub mod Calls
 pub mod Answered
+pub mod Heals
 pub mod Sessions

@@ -2,15 +2,16 @@
 ghost use Rattle.std.specs.Prelude.{◌≡◌, false};
 ghost use Rattle.cc_base.specs.Outside.{HasCause};
 ghost use Rattle.core_terms.specs.History.{is_outward};
-ghost use Rattle.mover_rounds.specs.Made.{copier_of};
+ghost use Rattle.mover_rounds.specs.Made.{Copies, copier_of};
 ghost use Rattle.rest_parse.specs.Calls.{IsInRange, meaning};
 ghost use Rattle.rest_session.specs.Answered.{HasAnswered, IsBlamed, IsReplied, fault_told};
-ghost use Rattle.rest_session.specs.Calls.{HasCalled, HasDone, IsAskedOnce, asked_by};
+ghost use Rattle.rest_session.specs.Calls.{HasCalled, HasDone, HasFollowed, HasHealed, IsAskedOnce, asked_by};
 
 use crate::calls::{Asked, asked_by};
+use anomaly_detector::{Decision, decide};
 use cc_base::{Link, WriteFault, write_link};
 use cluster_gate::Copier;
-use core_terms::Event;
+use core_terms::{Event, Reply, StepFault};
 use mover_rounds::{Asker, pump};
 use rest_parse::{Call, Routes};
 use rest_replies::{MEMORY_REPLY, Told, memory_reply_is_a_reply, reply_bytes};
@@ -28,6 +29,59 @@ fn ask_once<X: Asker>(asker: &mut X, event: Event) -> Told
 {
     match asker.ask(event) {
         Ok(reply) => Told::Core(reply),
+        Err((fault, _)) => Told::Step(fault),
+    }
+}
+
+// Asks the fix, where it is one, and says what it is told.
+fn heal<X: Asker>(asker: &mut X, decision: Decision) -> Told
+    ensures since { X.since asker.old asker.new }
+    ensures healed { HasHealed (X.known asker.old) (X.known asker.new) decision result }
+    ensures blamed { IsBlamed (fault_told result) (X.known asker.old).blamed
+        (X.known asker.new).blamed }
+{
+    match decision {
+        Decision::Fix(cause, ask) => ask_once(asker, Event::Heal(cause, ask)),
+        decision => Told::Decided(decision),
+    }
+}
+
+// Does what a look calls for that was answered so, and says what it is told.
+fn follow<X: Asker>(
+    alloc: Global,
+    asker: &mut X,
+    reply: Reply,
+    now: u64,
+    alert: u64,
+    heal_age: u64,
+) -> Told
+    ensures since { X.since asker.old asker.new }
+    ensures followed { HasFollowed (X.known asker.old) (X.known asker.new) now alert heal_age reply
+        result }
+    ensures blamed { IsBlamed (fault_told result) (X.known asker.old).blamed
+        (X.known asker.new).blamed }
+{
+    let looked = match reply {
+        Reply::Looked(looked) => looked,
+        reply => return Told::Core(reply),
+    };
+    let (since, case, lists) = (looked.since(), looked.case(), looked.lists());
+    match decide(alloc, now, alert, heal_age, since, case, lists) {
+        Ok(decision) => heal(asker, decision),
+        Err(_) => Told::Step(StepFault::Memory),
+    }
+}
+
+// Looks at the lost brokers, and does what is called for.
+fn detect<X: Asker>(alloc: Global, asker: &mut X, now: u64, alert: u64, heal_age: u64) -> Told
+    ensures since { X.since asker.old asker.new }
+    ensures done { (k : Copies) → HasDone (X.known asker.old) (X.known asker.new) k k
+        (Asked.Detects now alert heal_age) result }
+    ensures blamed { IsBlamed (fault_told result) (X.known asker.old).blamed
+        (X.known asker.new).blamed }
+{
+    match asker.ask(Event::Look(now)) {
+        Ok(reply) => follow(alloc, asker, reply, now, alert, heal_age),
         Err((fault, _)) => Told::Step(fault),
     }
 }
@@ -50,6 +104,7 @@ fn do_call<X: Asker, K: Copier, R: Threads + Sync>(
 {
     match asked_by(call) {
         Asked::Once(event) => ask_once(asker, event),
+        Asked::Detects(now, alert, heal) => detect(alloc, asker, now, alert, heal),
         Asked::Rounds(steps) => Told::Pump(pump(rt, alloc, asker, copier, steps)),
     }
 }

@@ -13,9 +13,12 @@ pub enum Asked {
     Once(Event),
     /// So many rounds.
     Rounds(u32),
+    /// A look at this moment, and the fix that it calls for: from which age on a lost broker is
+    /// told, and from which it is removed. All are in milliseconds.
+    Detects(u64, u64, u64),
 }
 
-/// The event that a call is, or so many rounds.
+/// The event that a call is, or so many rounds, or a look with what follows.
 pub fn asked_by(call: Call) -> Asked
     requires { IsInRange call }
     ensures { result ≡ asked_by call }
@@ -32,5 +35,6 @@ pub fn asked_by(call: Call) -> Asked
         Call::Caps(broker, cluster, leader) => {
             Asked::Once(Event::Caps(CapChange::new(broker, cluster, leader)))
         }
+        Call::Detect(now, alert, heal) => Asked::Detects(now, alert, heal),
     }
 }

@@ -4,9 +4,11 @@
 
 mod answer;
 mod calls;
+mod laws;
 mod session;
 mod whole;
 
 pub use calls::{Asked, asked_by};
+pub use laws::only_detects_heal;
 pub use session::{LinkEnd, serve};
 pub use whole::{SessionEnd, finish, run_session};

@@ -1,2 +1,4 @@
+pub mod Asks
+pub mod Factors
 pub mod Ids
 pub mod Tasks

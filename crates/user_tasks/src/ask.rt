@@ -3,6 +3,7 @@ ghost use Rattle.std.specs.Prelude.{◌≡◌, ◌↔◌, IfOk, IsTrue};
 
 use plan_terms::{GoalName, ListOf, Memory, Name, Topic};
 use std::alloc::Global;
+use std::marker::Model;
 
 /// What is shown of the service.
 #[derive(Clone, Copy, PartialEq, Eq, Debug)]
@@ -26,6 +27,8 @@ pub enum Op {
     AddBroker,
     RemoveBroker,
     DemoteBroker,
+    /// Another replication factor of some topics. No plan is made for it.
+    TopicConfiguration,
 }
 
 /// A request for a plan.
@@ -42,6 +45,32 @@ pub struct Ask {
     pub excluded: ListOf<Topic>,
     /// Whether the plan is not to be carried out.
     pub dryrun: bool,
+    /// The topics of which the replication factor is to change.
+    pub topics: ListOf<Topic>,
+    /// How many replicas each of their partitions is to have: 1 to 8, and 0 where no factor is to
+    /// change.
+    pub factor: u32,
+}
+
+impl Model for Ask {
+    ghost use Rattle.std.specs.Prelude.{◌≡◌, true};
+    ghost use Rattle.user_tasks.specs.Asks.{AskView};
+    ghost use Rattle.user_tasks.specs.Factors.{fits_op};
+
+    ghost Value = { AskView };
+
+    ghost view = { λ a. record {
+      op = a.op;
+      brokers = a.brokers;
+      goals = a.goals;
+      skip = a.skip;
+      excluded = a.excluded;
+      dryrun = a.dryrun;
+      topics = a.topics;
+      factor = a.factor;
+    } };
+
+    ghost invariant = { λ a. fits_op a.op a.factor ≡ true };
 }
 
 fn same_names<K>(one: &[Name<K>], other: &[Name<K>]) -> bool
@@ -81,6 +110,8 @@ impl Ask {
             skip: self.skip,
             excluded: copied(alloc, self.excluded.as_slice())?,
             dryrun: self.dryrun,
+            topics: copied(alloc, self.topics.as_slice())?,
+            factor: self.factor,
         })
     }
 
@@ -94,5 +125,7 @@ impl Ask {
             && self.skip == other.skip
             && same_names(self.excluded.as_slice(), other.excluded.as_slice())
             && self.dryrun == other.dryrun
+            && same_names(self.topics.as_slice(), other.topics.as_slice())
+            && self.factor == other.factor
     }
 }

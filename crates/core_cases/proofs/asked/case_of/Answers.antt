@@ -1,6 +1,7 @@
-use Rattle.std.proofs.Common.{◌∙◌, Bool, length, map, ap}
+use Rattle.std.proofs.Common.{◌∙◌, Bool, length, map, ap, subst}
 use Rattle.std.proofs.lemmas.List.{length-map}
 use Rattle.plan_terms.specs.Cluster.{Cluster}
+use Rattle.user_tasks.specs.Asks.{AskView}
 use Rattle.core_terms.specs.Asked.{broker_asked, part_asked, state_for, case_of}
 use Rattle.core_cases.specs.Excluded.{HasTopics}
 use Rattle.core_cases.proofs.Belonging.{Belongs-same}
@@ -11,7 +12,8 @@ unfolding case_of
 returns-clause-value c =
     let ask = c.args.ask.now in
     let old = c.args.present in
-    let has : HasTopics c.in_ok-excluded.excluded ask.excluded = rw c.as_slice.ensures at c.in_ok-excluded.ensures in
+    let has : HasTopics c.in_ok-excluded.excluded ask.excluded =
+    subst (λ (a : AskView). HasTopics c.in_ok-excluded.excluded a.excluded) c.ask.view_is (rw c.as_slice.ensures at c.in_ok-excluded.ensures) in
     c.set_leads_only.ensures
     ∙ ap (λ (k : Cluster). record k { options = record k.options { leads_only = c.asks_demotion.result } })
     (c.ask_parts.ensures ask has ∙ ap (λ (k : Cluster). record k { parts = map (part_asked ask) k.parts }) c.ask_brokers.ensures)

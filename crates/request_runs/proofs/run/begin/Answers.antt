@@ -17,7 +17,7 @@ unreachable-requires-in_default-reply c =
     ap (λ (b : BookView MemoryCluster). b.file) c.in-Ok.ensures.opened ∙ ap (λ (x : Fraction). record (file_seen c.args.file) { ratio = x }) c.in-Some.ensures.1 in
     let journal : c.in-Ok.book.journal ≡ [] = ap (λ (b : BookView MemoryCluster). b.journal) c.in-Ok.ensures.opened in
     c.in_default-reply.not-Accepted (id_at 0)
-    (accepted (file_seen c.args.file) c.args.ask c.requires.brokers c.requires.goals c.requires.carried c.in-Ok.book c.in-Ok-step.reply file journal c.in-Ok-step.ensures.reply)
+    (accepted (file_seen c.args.file) c.args.ask c.requires.brokers c.requires.goals c.requires.carried c.requires.plans c.in-Ok.book c.in-Ok-step.reply file journal c.in-Ok-step.ensures.reply)
 
 pub returns-clause-id : goal.returns-clause-id
 returns-clause-id c =
@@ -25,7 +25,7 @@ returns-clause-id c =
     ap (λ (b : BookView MemoryCluster). b.file) c.in-Ok.ensures.opened ∙ ap (λ (x : Fraction). record (file_seen c.args.file) { ratio = x }) c.in-Some.ensures.1 in
     let journal : c.in-Ok.book.journal ≡ [] = ap (λ (b : BookView MemoryCluster). b.journal) c.in-Ok.ensures.opened in
     let is : c.in-Ok-step.reply ≡ reply.Accepted (id_at 0) =
-    accepted (file_seen c.args.file) c.args.ask c.requires.brokers c.requires.goals c.requires.carried c.in-Ok.book c.in-Ok-step.reply file journal c.in-Ok-step.ensures.reply in
+    accepted (file_seen c.args.file) c.args.ask c.requires.brokers c.requires.goals c.requires.carried c.requires.plans c.in-Ok.book c.in-Ok-step.reply file journal c.in-Ok-step.ensures.reply in
     same c.in-Accepted.id (id_at 0) (sym c.in-Accepted.is ∙ is)
   where
     same : (a b : List ℕ) → ◌≡◌ {A = Reply} (reply.Accepted a) (reply.Accepted b) → a ≡ b

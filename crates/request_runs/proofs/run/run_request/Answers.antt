@@ -9,11 +9,11 @@ use Rattle.request_runs.proofs.run.run_request.Goals as goal
 
 pub carry_out-requires : goal.carry_out-requires
 carry_out-requires g c =
-    (c.type_bounds.sync-R, quiet (file_seen c.args.file) c.args.ask c.requires.brokers c.requires.goals c.requires.carried c.in_ok-book.book c.in_ok-book.ensures.file c.in_ok-book.ensures.journal)
+    (c.type_bounds.sync-R, quiet (file_seen c.args.file) c.args.ask c.requires.brokers c.requires.goals c.requires.carried c.requires.plans c.in_ok-book.book c.in_ok-book.ensures.file c.in_ok-book.ensures.journal)
 
 pub returns-clause-run : goal.returns-clause-run
 returns-clause-run g c =
-    run (file_seen c.args.file) c.args.ask c.requires.brokers c.requires.goals c.requires.carried c.in_ok-book.book c.carry_out.new.book c.step.new.self
+    run (file_seen c.args.file) c.args.ask c.requires.brokers c.requires.goals c.requires.carried c.requires.plans c.in_ok-book.book c.carry_out.new.book c.step.new.self
     (record { made = Some []; faults = 0 }) (record { made = c.in_ok-carry_out.ensures.rounds.0; faults = 0 }) refl c.in_ok-book.ensures.file c.in_ok-book.ensures.journal
     c.in_ok-carry_out.ensures.rounds.1 c.carry_out.ensures.file c.in_ok-carry_out.ensures.done c.in-Ok.ensures.file
     (rw (c.in_ok-question.ensures, c.in_ok-book.ensures.id) at c.in-Ok.ensures.entry) c.journal-legal.ensures.legal c.journal-legal.ensures.input
@@ -21,7 +21,7 @@ returns-clause-run g c =
 pub unreachable-requires : goal.unreachable-requires
 unreachable-requires g c =
     let ends =
-    end_of (file_seen c.args.file) c.args.ask c.requires.brokers c.requires.goals c.requires.carried c.in_ok-book.book c.carry_out.new.book c.step.new.self
+    end_of (file_seen c.args.file) c.args.ask c.requires.brokers c.requires.goals c.requires.carried c.requires.plans c.in_ok-book.book c.carry_out.new.book c.step.new.self
     (record { made = Some []; faults = 0 }) (record { made = c.in_ok-carry_out.ensures.rounds.0; faults = 0 }) refl c.in_ok-book.ensures.file c.in_ok-book.ensures.journal
     c.in_ok-carry_out.ensures.rounds.1 c.carry_out.ensures.file c.in_ok-carry_out.ensures.done c.in-Ok.ensures.file
     (rw (c.in_ok-question.ensures, c.in_ok-book.ensures.id) at c.in-Ok.ensures.entry) c.journal-legal.ensures.legal c.journal-legal.ensures.input
@@ -32,7 +32,7 @@ unreachable-requires g c =
 pub returns-clause-came : goal.returns-clause-came
 returns-clause-came g c =
     let ends =
-    end_of (file_seen c.args.file) c.args.ask c.requires.brokers c.requires.goals c.requires.carried c.in_ok-book.book c.carry_out.new.book c.step.new.self
+    end_of (file_seen c.args.file) c.args.ask c.requires.brokers c.requires.goals c.requires.carried c.requires.plans c.in_ok-book.book c.carry_out.new.book c.step.new.self
     (record { made = Some []; faults = 0 }) (record { made = c.in_ok-carry_out.ensures.rounds.0; faults = 0 }) refl c.in_ok-book.ensures.file c.in_ok-book.ensures.journal
     c.in_ok-carry_out.ensures.rounds.1 c.carry_out.ensures.file c.in_ok-carry_out.ensures.done c.in-Ok.ensures.file
     (rw (c.in_ok-question.ensures, c.in_ok-book.ensures.id) at c.in-Ok.ensures.entry) c.journal-legal.ensures.legal c.journal-legal.ensures.input

@@ -8,4 +8,5 @@ returns c =
     let s2 = c.in_ok-insert-2.ensures.1 in
     let s3 = c.in_ok-insert-3.ensures.1 in
     let s4 = c.in_ok-insert-4.ensures.1 in
-    rw (s4, s3, s2, s1, c.requires) at c.in_ok-insert-5.ensures.1
+    let s5 = c.in_ok-insert-5.ensures.1 in
+    rw (s5, s4, s3, s2, s1, c.requires) at c.in_ok-insert-6.ensures.1

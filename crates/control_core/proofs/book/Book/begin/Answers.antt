@@ -10,5 +10,5 @@ invariant_of-result g c =
     where_ok (vec_len c.reserve.new.self + 1 ≤ vec_capacity c.reserve.new.self) c.reserve.result (sym c.is_err.ensures.value ∙ c.if-is_err.false) c.reserve.ensures.ok in
     rw (c.reserve.ensures.items, c.new-journal.ensures.items)
     (opened_book (g.A.Admin.told c.args.admin) (g.A.Admin.told c.install.new.self) (g.A.Admin.parts c.install.new.self) (g.A.Admin.faults c.install.new.self) c.in-Ok.machine
-    (vec_capacity c.reserve.new.self) c.in-Ok.ensures.input c.in-Ok.ensures.windows c.in-Ok.ensures.desk c.in-Ok.ensures.stands (rw c.lists.ensures.value at c.in-Ok-install.ensures.lists)
+    (vec_capacity c.reserve.new.self) c.in-Ok.ensures.input c.in-Ok.ensures.windows c.in-Ok.ensures.desk c.in-Ok.ensures.stands c.in-Ok.ensures.since (rw c.lists.ensures.value at c.in-Ok-install.ensures.lists)
     (rw c.lists.ensures.value at c.in-Ok-install.ensures.parts) (omega (arith, room)))

@@ -47,7 +47,7 @@ invariant_of-self-in-Ok g c =
     let short : length (b.journal.items ++ c.args.event ∷ []) < 2 ^ 63 = rw items at c.enter.ensures.short in
     rw items
     (stepped (g.A.Admin.told b.admin) (g.A.Admin.parts b.admin) (g.A.Admin.faults b.admin) b.machine b.journal.items (vec_capacity b.journal) b.failures b.late c.self.invariant c.serve.new.self c.args.event (vec_capacity c.enter.new.journal) (g.A.Admin.parts c.write.new.admin)
-    (g.A.Admin.faults c.write.new.admin) (g.A.Admin.told c.write.new.admin) c.is_legal.ensures c.serve.ensures.file c.serve.ensures.windows c.in-Ok.ensures.desk c.in-Ok.ensures.stands told
+    (g.A.Admin.faults c.write.new.admin) (g.A.Admin.told c.write.new.admin) c.is_legal.ensures c.serve.ensures.file c.serve.ensures.windows c.in-Ok.ensures.desk c.in-Ok.ensures.stands c.in-Ok.ensures.since told
     c.write.ensures.parts c.write.ensures.later (omega (arith, room, c.enter.ensures.capacity)) short)
 
 pub returns-in-Ok-clause-entry : goal.returns-in-Ok-clause-entry

@@ -30,8 +30,11 @@ use Rattle.exec_terms.proofs.Events.{next_step-no_cancel}
 use Rattle.exec_terms.proofs.Gives.{none_any}
 use Rattle.exec_terms.proofs.Launch.{length-each_below, get_or-each_below}
 use Rattle.exec_terms.proofs.WorkLeft.{position-None}
-use Rattle.executor_core.specs.Kept.{proposal_of}
 use Rattle.exec_terms.proofs.Changes.{all_lead, unchanged}
+
+-- the proposal that a task was made of
+abbrev pub proposal_of : Task → Proposal
+proposal_of t = record { part = t.part; before = t.before; after = t.after }
 
 -- the task goes on, or has its new list
 abbrev pub IsOn : Task → Type 0
@@ -83,7 +86,7 @@ module _ (lists : Lists) (hosts : List Host) (ps : List Proposal) where
     by (Err why) = c
     by (Ok g) = calm_task s g.task (with_lease g.lease g.work (task_at s.tasks g.task)) g.lease refl (λ l. started_on (task_at s.tasks g.task).phase (c.on g.task no_task l)) c
 
-  calm_release : (s : State) (lease : ℕ) → IsCalm lists hosts ps s → IsCalm lists hosts ps (end_lease s lease)
+  pub calm_release : (s : State) (lease : ℕ) → IsCalm lists hosts ps s → IsCalm lists hosts ps (end_lease s lease)
   unfolding end_lease
   calm_release s lease c = by (position (holds lease) s.tasks) where
     by : (o : Option ℕ) → IsCalm lists hosts ps (ended_at s o)
@@ -143,18 +146,16 @@ made_of : (chunks : List ℕ) (ps : List Proposal) → map proposal_of (map (tas
 made_of chunks [] = refl
 made_of chunks (p ∷ ps) = ap (λ (qs : List Proposal). p ∷ qs) (made_of chunks ps)
 
+pub calm_begun : (s : State) (ps : List Proposal) → IsCalm (lists_now s) s.hosts ps (launched s ps None)
+calm_begun s ps = record { base_is = refl; hosts_are = refl; tasks_are = made_of s.chunks ps; on = All-map IsOn (task_of s.chunks) ps (λ k d l. refl) }
+
 pub calm_launch : (lists : Lists) (hosts : List Host) (ps : List Proposal) (s : State) → IsCalm lists hosts [] s → IsCalm lists hosts ps (after_launch s ps)
 calm_launch lists hosts ps s c = rw first made where
   first : first_unfinished s ≡ None
   first = ap (λ (ts : List Task). position (λ t. is_unfinished t.phase) ts) (no_tasks lists hosts s c)
 
   made : IsCalm lists hosts ps (launched s ps None)
-  made = record {
-    base_is = lists_kept lists hosts s c;
-    hosts_are = c.hosts_are;
-    tasks_are = made_of s.chunks ps;
-    on = All-map IsOn (task_of s.chunks) ps (λ k d l. refl);
-  }
+  made = let b = calm_begun s ps in record { base_is = lists_kept lists hosts s c; hosts_are = c.hosts_are; tasks_are = b.tasks_are; on = b.on }
 
 -- where no task is unfinished, each has its new list
 completed_is : (p : Phase) → (goes_on p || is_completed p) ≡ true → is_unfinished p ≡ false → p ≡ Completed

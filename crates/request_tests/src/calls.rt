@@ -23,6 +23,14 @@ fn plan(rt: &impl Abort, alloc: Global, ask: &Ask, key: Option<Uuid>) -> String 
         push(rt, &mut text, " without ");
         push(rt, &mut text, topic.as_str());
     }
+    for topic in ask.topics.as_slice() {
+        push(rt, &mut text, " topic ");
+        push(rt, &mut text, topic.as_str());
+    }
+    if ask.factor > 0 {
+        let factor = format!(in alloc; " factor {}", ask.factor).expect(rt, "memory");
+        push(rt, &mut text, factor.as_str());
+    }
     push(rt, &mut text, if ask.skip { " skip" } else { "" });
     push(rt, &mut text, if ask.dryrun { " dry" } else { "" });
     if let Some(id) = key {
@@ -48,6 +56,7 @@ fn words(rt: &impl Abort, alloc: Global, meant: Result<Call, HttpFault>) -> Stri
         Ok(Call::Caps(broker, cluster, leader)) => {
             format!(in alloc; "caps {broker:?} {cluster:?} {leader:?}")
         }
+        Ok(Call::Detect(now, alert, heal)) => format!(in alloc; "detect {now} {alert} {heal}"),
         Err(HttpFault::BadParameter(name)) => format!(in alloc; "bad {}", name.as_str()),
         Err(fault) => format!(in alloc; "{fault:?}"),
     };
@@ -66,7 +75,7 @@ fn meant(rt: &impl Abort, alloc: Global, begin: &str, end: &str) -> String {
 }
 
 // What stands behind `/kafkacruisecontrol/` in a first line, and what the request means.
-const REQUESTS: [(&str, &str); 51] = [
+const REQUESTS: [(&str, &str); 57] = [
     ("GET state", "State"),
     ("GET load?json=true&verbose=&reason=%", "Load"),
     ("GET kafka_cluster_state", "ClusterState"),
@@ -163,10 +172,28 @@ const REQUESTS: [(&str, &str); 51] = [
         "bad dryrun",
     ),
     ("GET admin?concurrent_leader_movements=1", "WrongMethod"),
+    (
+        "POST topic_configuration?topic=a,b&replication_factor=8&dryrun=false",
+        "TopicConfiguration topic a topic b factor 8",
+    ),
+    (
+        "POST topic_configuration?replication_factor=1&topic=t,",
+        "TopicConfiguration topic t topic  factor 1 dry",
+    ),
+    ("POST topic_configuration", "bad topic"),
+    ("POST topic_configuration?topic=t", "bad replication_factor"),
+    (
+        "POST topic_configuration?replication_factor=9&topic=",
+        "bad replication_factor",
+    ),
+    (
+        "POST topic_configuration?topic=&replication_factor=9",
+        "bad topic",
+    ),
 ];
 
 // The same behind `/cluster/`.
-const CLUSTER: [(&str, &str); 8] = [
+const CLUSTER: [(&str, &str); 14] = [
     ("POST pump", "pump 1"),
     ("POST pump?steps=100000", "pump 100000"),
     ("POST pump?steps=0", "bad steps"),
@@ -175,6 +202,15 @@ const CLUSTER: [(&str, &str); 8] = [
     ("POST kill?broker=7", "kill 7"),
     ("POST kill?broker=7,8", "bad broker"),
     ("POST state", "NotFound"),
+    ("POST detect?now=0", "detect 0 900000 1800000"),
+    (
+        "POST detect?heal_ms=5&alert_ms=5&now=9007199254740991",
+        "detect 9007199254740991 5 5",
+    ),
+    ("POST detect", "bad now"),
+    ("POST detect?now=9007199254740992", "bad now"),
+    ("POST detect?now=1&alert_ms=2000000", "bad heal_ms"),
+    ("GET detect?now=1", "WrongMethod"),
 ];
 
 fn target(rt: &impl Abort, alloc: Global, root: &str, words: &str) -> String {
@@ -197,7 +233,8 @@ fn requests_mean_their_call_or_their_first_fault(rt: HostRuntime) {
         let keyed = meant(&rt, alloc, line.as_str(), KEYED);
         let is_plan = want.contains("Proposals")
             || want.contains("Rebalance")
-            || want.contains("Broker ");
+            || want.contains("Broker ")
+            || want.contains("Topic");
         assert_eq!(rt;
             keyed.as_str(),
             if is_plan { "bad User-Task-ID" } else { *want },

@@ -1,5 +1,6 @@
 // Replies byte for byte. Where memory is wanting the test panics, in place of `?`, so that no row
 // is let go there: the proof of each drop is long.
+use anomaly_detector::Decision;
 use core_terms::{
     BrokerShown, ExecutorState, Named, Outcome, PartShown, PumpEnd, Reason, Reply, Shown,
     StateShown, StepFault, TaskShown,
@@ -216,6 +217,25 @@ fn shows(rt: &impl Abort, alloc: Global) -> Rows {
     rows.expect(rt, "memory")
 }
 
+fn decisions(rt: &impl Abort, alloc: Global) -> Rows {
+    let brokers = || ListOf::new([4, 7].to_vec(alloc).expect(rt, "memory"));
+    let rows = vec![in alloc;
+        (
+            Told::Decided(Decision::Alert(brokers())),
+            "HTTP/1.1 200 OK\r\nContent-Type: application/json\r\nContent-Length: 47\r\n\r\n{\"anomaly\":\"ALERT\",\"brokers\":[4,7],\"version\":1}",
+        ),
+        (
+            Told::Decided(Decision::Waiting(brokers())),
+            "HTTP/1.1 200 OK\r\nContent-Type: application/json\r\nContent-Length: 49\r\n\r\n{\"anomaly\":\"WAITING\",\"brokers\":[4,7],\"version\":1}",
+        ),
+        (
+            Told::Decided(Decision::Fine),
+            "HTTP/1.1 200 OK\r\nContent-Type: application/json\r\nContent-Length: 43\r\n\r\n{\"anomaly\":\"NONE\",\"brokers\":[],\"version\":1}",
+        ),
+    ];
+    rows.expect(rt, "memory")
+}
+
 fn core_refusals(rt: &impl Abort, alloc: Global) -> Rows {
     let rows = vec![in alloc;
         (
@@ -253,6 +273,14 @@ fn core_refusals(rt: &impl Abort, alloc: Global) -> Rows {
         (
             Told::Core(Reply::TooManyActive),
             "HTTP/1.1 429 Too Many Requests\r\nContent-Type: application/json\r\nContent-Length: 50\r\n\r\n{\"errorMessage\":\"16 tasks are active\",\"version\":1}",
+        ),
+        (
+            Told::Core(Reply::NoSuchTopic(topic(rt, alloc, "u"))),
+            "HTTP/1.1 400 Bad Request\r\nContent-Type: application/json\r\nContent-Length: 47\r\n\r\n{\"errorMessage\":\"no such topic: u\",\"version\":1}",
+        ),
+        (
+            Told::Core(Reply::TooFewBrokers(3)),
+            "HTTP/1.1 409 Conflict\r\nContent-Type: application/json\r\nContent-Length: 49\r\n\r\n{\"errorMessage\":\"too few brokers: 3\",\"version\":1}",
         ),
         (
             Told::Core(Reply::NotEnoughWindows(1, 20)),
@@ -344,6 +372,7 @@ fn replies_are_these_bytes(rt: HostRuntime) {
         changes(&rt, alloc),
         shows(&rt, alloc),
         core_refusals(&rt, alloc),
+        decisions(&rt, alloc),
         requests(&rt, alloc),
         stops(&rt, alloc),
     ] {

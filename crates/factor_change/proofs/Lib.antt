@@ -1,0 +1,6 @@
+pub mod Least
+pub mod Keeps
+pub mod Grown
+pub mod Folded
+pub mod Resizing
+pub mod Racks
