@@ -1,6 +1,6 @@
 -- The least of places, found one after another.
 use Rattle.std.proofs.Common.{◌≡◌, ◌∙◌, ◌⊎◌, inl, inr, ℕ, zero, suc, ◌+◌, ◌<◌, ◌≤◌, Bool, true, false, not, ◌&&◌, ◌||◌, cond, List, [], ◌∷◌, length, get_or, refl, sym, ap, arith, zero-add, add-one}
-use Rattle.std.specs.Prelude.{Option, Some, None, option_map, find}
+use Rattle.std.specs.Prelude.{Option, Some, None, MatchOption, option_map, find}
 use Rattle.std.specs.List.{list_any, range_with_len}
 use Rattle.std.proofs.lemmas.List.FromFn.{get_or-range_with_len, length-range_with_len}
 use Rattle.std.proofs.lemmas.Bool.{true≢false, false≢true, cases_lt, and_from, and_left, and_right}
@@ -11,6 +11,8 @@ use Rattle.plan_terms.specs.declared.cluster.BrokerState.TheVariants.{Dead}
 use Rattle.std.proofs.lemmas.List.{get_or-map}
 use Rattle.plan_terms.specs.Load.{count}
 use Rattle.factor_change.specs.Choice.{is_less, may_join, shares_rack, precedes, is_least, next_member, joins_at, precedes_at, IsFirstLeast}
+use Rattle.factor_change.specs.Best.{IsBest, place_of}
+use Rattle.factor_change.specs.declared.choice.Best.{Best}
 
 -- the order of pairs
 pub less_trans : (a b c : Bool) (m n o : ℕ) → is_less a m b n ≡ true → is_less b n c o ≡ true → is_less a m c o ≡ true
@@ -192,6 +194,16 @@ module _ (c : Cluster) (lists : Lists) (list : List ℕ) where
 
   pub first_least : (n : ℕ) → joins_at c list n ≡ true → IsFirstLeast (joins_at c list) (precedes_at c lists list) n None → IsFirstLeast (joins_at c list) (precedes_at c lists list) (n + 1) (Some n)
   first_least = least_first (joins_at c list) (precedes_at c lists list) (precedes_trans c lists list) (precedes_by c lists list) (precedes_never c lists list)
+
+  -- by the candidate at the place
+  pub more_first : (n : ℕ) (o : Option Best) → MatchOption o (joins_at c list n ≡ false) (λ b. (b.place ≡ n) × IsBest c list b × (joins_at c list n ≡ true))
+      → IsFirstLeast (joins_at c list) (precedes_at c lists list) n None → IsFirstLeast (joins_at c list) (precedes_at c lists list) (n + 1) (place_of o)
+  more_first n None m h = same_least n None m h
+  more_first n (Some b) m h = rw m.0 (first_least n m.2 h)
+
+  pub more_new : (n i : ℕ) (b : Best) → (b.place ≡ n) × IsBest c list b × (joins_at c list n ≡ true) → precedes_at c lists list n i ≡ true
+      → IsFirstLeast (joins_at c list) (precedes_at c lists list) n (Some i) → IsFirstLeast (joins_at c list) (precedes_at c lists list) (n + 1) (Some b.place)
+  more_new n i b m less h = rw m.0 (new_least n i m.2 less h)
 
 -- there is a least one, where any passes
 module _ (passes : ℕ → Bool) (less : ℕ → ℕ → Bool) (trans : (i j k : ℕ) → less i j ≡ true → less j k ≡ true → less i k ≡ true)

@@ -1,14 +1,15 @@
 -- A broker's rack is among the members' racks where it is a member, or its rack is one of theirs.
-use Rattle.std.proofs.Common.{◌≡◌, ◌∙◌, ◌⊎◌, inl, inr, ℕ, ◌<◌, Bool, true, false, ◌||◌, List, [], ◌∷◌, map, length, get_or, refl, sym, ap}
-use Rattle.std.specs.Prelude.{◌==◌, cond, Option, option_map}
+use Rattle.std.proofs.Common.{◌≡◌, ◌∙◌, ◌⊎◌, inl, inr, ℕ, ◌<◌, ◌≤◌, Bool, true, false, not, ◌||◌, List, [], ◌∷◌, map, length, get_or, refl, sym, ap, arith}
+use Rattle.std.specs.Prelude.{◌==◌, cond, nat_lt, Option, option_map}
 use Rattle.std.specs.List.{list_any}
 use Rattle.std.proofs.lemmas.List.{get_or-map, get_or_default, length-map}
 use Rattle.std.proofs.lemmas.Bool.{cases_eq, eq-eqb, ne_eqb}
+use Rattle.std.proofs.lemmas.Bool.Decides.{nat_tests}
 use Rattle.plan_terms.specs.Cluster.{Cluster, Lists, has, id_at}
 use Rattle.plan_terms.specs.Racks.{equal_racks, rack_of, same_rack}
 use Rattle.plan_terms.specs.Load.{count}
 use Rattle.plan_terms.specs.declared.cluster.Broker.{Broker}
-use Rattle.factor_change.specs.Choice.{counts_of, is_less, precedes, precedes_at, shared_racks, shares_rack}
+use Rattle.factor_change.specs.Choice.{counts_of, is_less, precedes, precedes_at, shares_rack}
 use Rattle.factor_change.proofs.Least.{no_broker}
 
 same_both : (m n : ℕ) → (m == n) ≡ (n == m)
@@ -39,13 +40,32 @@ module _ {B : Type 0} (seen : B → List ℕ) where
       → (has list b || list_any (λ r. equal_racks q (option_map seen r)) racks) ≡ shares_rack c list b
   shares_by_racks c list b q racks e h = rw (any_seen q racks, h, e) (racks_share c b list)
 
--- which of two brokers is rather to become a member stands in the tables
-module _ (c : Cluster) (lists : Lists) (list : List ℕ) where
-  shared_at : (k : ℕ) → k < length c.brokers → get_or (shared_racks c list) k false ≡ shares_rack c list (id_at c.brokers k)
-  shared_at k l =
-      get_or-map (λ (b : Broker). shares_rack c list b.id) c.brokers k no_broker false l
-      ∙ ap (shares_rack c list) (sym (get_or-map (λ (b : Broker). b.id) c.brokers k no_broker 0 l))
+-- where racks are compared only as far as the numbers of replicas leave it open
+pub fewer_shared : (s o : Bool) (m n : ℕ) → o ≡ true → m < n → nat_lt m n ≡ is_less s m o n
+fewer_shared true true m n e f = refl
+fewer_shared false true m n e f = grind (arith, nat_tests)
+fewer_shared s false m n e f = absurd cc
 
+pub no_fewer_shared : (s o : Bool) (m n : ℕ) → o ≡ true → n ≤ m → not s ≡ is_less s m o n
+no_fewer_shared true true m n e f = grind (arith, nat_tests)
+no_fewer_shared false true m n e f = refl
+no_fewer_shared s false m n e f = absurd cc
+
+pub fewer_apart : (s o : Bool) (m n : ℕ) → o ≡ false → m < n → not s ≡ is_less s m o n
+fewer_apart true false m n e f = refl
+fewer_apart false false m n e f = grind (arith, nat_tests)
+fewer_apart s true m n e f = absurd cc
+
+pub no_fewer_apart : (s o : Bool) (m n : ℕ) → o ≡ false → n ≤ m → nat_lt m n ≡ is_less s m o n
+no_fewer_apart true false m n e f = grind (arith, nat_tests)
+no_fewer_apart false false m n e f = refl
+no_fewer_apart s true m n e f = absurd cc
+
+pub id_there : (c : Cluster) (k : ℕ) (d : Broker) → k < length c.brokers → (get_or c.brokers k d).id ≡ id_at c.brokers k
+id_there c k d l = sym (get_or-map (λ (b : Broker). b.id) c.brokers k d 0 l)
+
+-- which of two brokers is rather to become a member, by the numbers in the table
+module _ (c : Cluster) (lists : Lists) (list : List ℕ) where
   count_at : (k : ℕ) → k < length c.brokers → get_or (counts_of c lists) k 0 ≡ count (id_at c.brokers k) lists
   count_at k l =
       get_or-map (λ (b : Broker). count b.id lists) c.brokers k no_broker 0 l
@@ -54,10 +74,10 @@ module _ (c : Cluster) (lists : Lists) (list : List ℕ) where
   counts_long : length (counts_of c lists) ≡ length c.brokers
   counts_long = length-map c.brokers (λ (b : Broker). count b.id lists)
 
-  pub precedes_by_tables : (i j m n : ℕ) → i < length c.brokers → j < length c.brokers → m ≡ get_or (counts_of c lists) i m → n ≡ get_or (counts_of c lists) j n
-      → is_less (get_or (shared_racks c list) i false) m (get_or (shared_racks c list) j false) n ≡ precedes_at c lists list i j
+  pub precedes_by_table : (i j m n : ℕ) → i < length c.brokers → j < length c.brokers → m ≡ get_or (counts_of c lists) i m → n ≡ get_or (counts_of c lists) j n
+      → is_less (shares_rack c list (id_at c.brokers i)) m (shares_rack c list (id_at c.brokers j)) n ≡ precedes_at c lists list i j
   unfolding precedes
-  precedes_by_tables i j m n l k e f =
+  precedes_by_table i j m n l k e f =
       let first : m ≡ count (id_at c.brokers i) lists = e ∙ get_or_default (counts_of c lists) i m 0 (rw counts_long l) ∙ count_at i l in
       let second : n ≡ count (id_at c.brokers j) lists = f ∙ get_or_default (counts_of c lists) j n 0 (rw counts_long k) ∙ count_at j k in
-      rw (shared_at i l, shared_at j k, first, second) refl
+      rw (first, second) refl

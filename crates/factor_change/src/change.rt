@@ -8,7 +8,7 @@ ghost use Rattle.factor_change.specs.Kept.{IsDraft};
 ghost use Rattle.factor_change.specs.Refused.{refusal};
 ghost use Rattle.factor_change.specs.Resized.{fitted, grown, resized, resized_at, with_member};
 
-use crate::choice::{Draft, next_member};
+use crate::choice::{Draft, next_place};
 use crate::fault::ResizeFault;
 use crate::refuse::{first_absent, first_short, is_named_at};
 use load_model::{Assign, Case, LoadBook};
@@ -114,11 +114,13 @@ fn add_member(alloc: Global, case: &Case, draft: &mut Draft, part: usize) -> Res
         ≤ length (list_of draft.old.lists.items part) + 1) }
 {
     let list = draft.lists[part].as_slice();
-    match next_member(alloc, case, draft, list)? {
+    match next_place(alloc, case, draft, list)? {
         None => Ok(()),
-        Some(member) => {
-            let longer = longer(alloc, list, member)?;
-            put_list(alloc, case, draft, part, longer)
+        Some(place) => {
+            let longer = longer(alloc, list, case.brokers()[place].id)?;
+            draft.counts[place] += 1;
+            draft.lists[part] = longer;
+            Ok(())
         }
     }
 }

@@ -1,9 +1,11 @@
 // Which broker becomes a further member of a list.
-ghost use Rattle.std.specs.Prelude.{◌≡◌, ◌<◌, ◌+◌, IfOk, length, map, option_map};
+ghost use Rattle.std.specs.Prelude.{◌≡◌, ◌<◌, ◌+◌, IfOk, IfSome, MatchOption, false, length, map, option_map, true};
 ghost use Rattle.std.specs.List.{list_any};
+ghost use Rattle.plan_terms.specs.Cluster.{id_at};
 ghost use Rattle.plan_terms.specs.Racks.{equal_racks, rack_of};
 ghost use Rattle.factor_change.specs.Kept.{IsDraft};
-ghost use Rattle.factor_change.specs.Choice.{IsFirstLeast, is_less, joins_at, may_join, next_member, precedes_at, shared_racks, shares_rack};
+ghost use Rattle.factor_change.specs.Choice.{IsFirstLeast, joins_at, may_join, next_member, precedes_at, shares_rack};
+ghost use Rattle.factor_change.specs.Best.{IsBest, place_of};
 
 use load_model::Case;
 use plan_terms::{Broker, Memory, RackName, Replicas, has};
@@ -62,34 +64,11 @@ fn shares_rack(case: &Case, list: &[u32], racks: &[Option<&RackName>], broker: u
     has(list, broker) || is_among(rack_at(case, broker), racks)
 }
 
-// Which brokers' racks are among the members' racks.
-fn shared_racks(alloc: Global, case: &Case, list: &[u32]) -> Result<Vec<bool>, Memory>
-    ensures { IfOk result (λ v. v.items ≡ shared_racks case.now list.now) }
-{
-    let racks = racks_of(alloc, case, list)?;
-    let mut shared = Vec::new(alloc);
-    for broker in case.brokers() {
-        shared.push(shares_rack(case, list, &racks, broker.id))?;
-    }
-    Ok(shared)
-}
-
 /// Whether the broker isn't lost and isn't a member.
 pub fn may_join(list: &[u32], broker: &Broker) -> bool
     ensures { result ≡ may_join list.now broker.now }
 {
     !broker.state.is_dead() && !has(list, broker.id)
-}
-
-// First whether the rack is shared, then the number of replicas.
-fn is_less(shared: bool, count: u64, other_shared: bool, other_count: u64) -> bool
-    ensures { result ≡ is_less shared count other_shared other_count }
-{
-    if shared == other_shared {
-        count < other_count
-    } else {
-        other_shared
-    }
 }
 
 /// The lists as changed so far, and how many replicas each broker has over them.
@@ -99,30 +78,52 @@ pub struct Draft {
     pub counts: Vec<u64>,
 }
 
-// Whether the broker at a place is rather to become a member than that at another one.
+// A place, and whether its broker's rack is among the members' racks.
+#[derive(Clone, Copy)]
+struct Best {
+    place: usize,
+    shared: bool,
+}
+
+// Whether the broker at a place is rather to become a member than the best one so far. Racks are
+// compared only where the numbers of replicas leave it open.
 #[tactic(auto, unfolding(crate::specs::Choice::precedes))]
 fn precedes(
     case: &Case,
     draft: &Draft,
     list: &[u32],
-    shared: &[bool],
+    racks: &[Option<&RackName>],
     place: usize,
-    other: usize,
+    best: Best,
 ) -> bool
     requires draft { IsDraft case.now draft.now.lists.items draft.now.counts.items }
-    requires shared { shared.now ≡ shared_racks case.now list.now }
+    requires racks { map (option_map (λ r. r.now)) racks.now ≡ map (rack_of case.now) list.now }
     requires place { place < length case.now.brokers }
-    requires other { other < length case.now.brokers }
-    ensures { result ≡ precedes_at case.now draft.now.lists.items list.now place other }
+    requires best { IsBest case.now list.now best }
+    ensures { result ≡ precedes_at case.now draft.now.lists.items list.now place best.place }
 {
-    let _case = case.brokers();
-    let _list = list;
-    is_less(
-        shared[place],
-        draft.counts[place],
-        shared[other],
-        draft.counts[other],
-    )
+    let fewer = draft.counts[place] < draft.counts[best.place];
+    if best.shared {
+        fewer || !shares_rack(case, list, racks, case.brokers()[place].id)
+    } else {
+        fewer && !shares_rack(case, list, racks, case.brokers()[place].id)
+    }
+}
+
+// The broker at a place, if it may become a member.
+fn candidate(case: &Case, list: &[u32], racks: &[Option<&RackName>], place: usize) -> Option<Best>
+    requires racks { map (option_map (λ r. r.now)) racks.now ≡ map (rack_of case.now) list.now }
+    requires place { place < length case.now.brokers }
+    ensures { MatchOption result (joins_at case.now list.now place ≡ false)
+        (λ b. (b.place ≡ place) × IsBest case.now list.now b
+        × (joins_at case.now list.now place ≡ true)) }
+{
+    let broker = &case.brokers()[place];
+    if !may_join(list, broker) {
+        return None;
+    }
+    let shared = shares_rack(case, list, racks, broker.id);
+    Some(Best { place, shared })
 }
 
 // The best place up to and with this one, after the best one before it.
@@ -130,61 +131,67 @@ fn better(
     case: &Case,
     draft: &Draft,
     list: &[u32],
-    shared: &[bool],
+    racks: &[Option<&RackName>],
     place: usize,
-    best: Option<usize>,
-) -> Option<usize>
-    requires shared { shared.now ≡ shared_racks case.now list.now }
+    best: Option<Best>,
+) -> Option<Best>
+    requires racks { map (option_map (λ r. r.now)) racks.now ≡ map (rack_of case.now) list.now }
     requires draft { IsDraft case.now draft.now.lists.items draft.now.counts.items }
     requires place { place < length case.now.brokers }
-    requires best { IsFirstLeast (joins_at case.now list.now)
-        (precedes_at case.now draft.now.lists.items list.now) place best }
-    ensures { IsFirstLeast (joins_at case.now list.now)
-        (precedes_at case.now draft.now.lists.items list.now) (place + 1) result }
+    requires best { IfSome best (IsBest case.now list.now) }
+    requires least { IsFirstLeast (joins_at case.now list.now)
+        (precedes_at case.now draft.now.lists.items list.now) place (place_of best) }
+    ensures best { IfSome result (IsBest case.now list.now) }
+    ensures least { IsFirstLeast (joins_at case.now list.now)
+        (precedes_at case.now draft.now.lists.items list.now) (place + 1) (place_of result) }
 {
-    if !may_join(list, &case.brokers()[place]) {
-        return best;
-    }
     match best {
-        None => Some(place),
+        None => candidate(case, list, racks, place),
         Some(old) => {
-            if precedes(case, draft, list, shared, place, old) {
-                Some(place)
-            } else {
-                Some(old)
+            if !precedes(case, draft, list, racks, place, old) {
+                return best;
+            }
+            match candidate(case, list, racks, place) {
+                None => best,
+                Some(new) => Some(new),
             }
         }
     }
 }
 
 // The place of the broker that is to become a member.
-fn least_place(case: &Case, draft: &Draft, list: &[u32], shared: &[bool]) -> Option<usize>
-    requires shared { shared.now ≡ shared_racks case.now list.now }
+fn least_place(
+    case: &Case,
+    draft: &Draft,
+    list: &[u32],
+    racks: &[Option<&RackName>],
+) -> Option<usize>
+    requires racks { map (option_map (λ r. r.now)) racks.now ≡ map (rack_of case.now) list.now }
     requires draft { IsDraft case.now draft.now.lists.items draft.now.counts.items }
     ensures { IsFirstLeast (joins_at case.now list.now)
         (precedes_at case.now draft.now.lists.items list.now) (length case.now.brokers) result }
 {
     let mut best = None;
     for place in 0..case.brokers().len() {
-        best = better(case, draft, list, shared, place, best);
+        best = better(case, draft, list, racks, place, best);
     }
-    best
+    Some(best?.place)
 }
 
-/// The broker that is to become a member of a list.
+/// The place of the broker that is to become a member of a list.
 #[tactic(auto, using(crate::proofs::Least::least_is))]
-pub fn next_member(
+pub fn next_place(
     alloc: Global,
     case: &Case,
     draft: &Draft,
     list: &[u32],
-) -> Result<Option<u32>, Memory>
+) -> Result<Option<usize>, Memory>
     requires { IsDraft case.now draft.now.lists.items draft.now.counts.items }
-    ensures { IfOk result (λ o. o ≡ next_member case.now draft.now.lists.items list.now) }
+    ensures place { IfOk result (λ o. IfSome o (λ k. k < length case.now.brokers)) }
+    ensures member { IfOk result
+        (λ o. option_map (id_at case.now.brokers) o
+        ≡ next_member case.now draft.now.lists.items list.now) }
 {
-    let shared = shared_racks(alloc, case, list)?;
-    match least_place(case, draft, list, &shared) {
-        None => Ok(None),
-        Some(place) => Ok(Some(case.brokers()[place].id)),
-    }
+    let racks = racks_of(alloc, case, list)?;
+    Ok(least_place(case, draft, list, &racks))
 }

@@ -1,26 +1,11 @@
-use Rattle.std.proofs.Common.{◌≡◌, ◌∙◌, sym, rules}
-use Rattle.factor_change.proofs.Least.{first_least, joins_of, new_least, same_least}
+use Rattle.std.proofs.Common.{◌∙◌, sym}
+use Rattle.factor_change.proofs.Least.{more_first, more_new}
 use Rattle.factor_change.proofs.choice.better.Goals as goal
 
-pub returns-then-not-may_join : goal.returns-then-not-may_join
-returns-then-not-may_join c =
-    let case = c.args.case.now in
-    let here : c.index-brokers-place.result ≡ _ = c.index-brokers-place.is in
-    same_least case c.args.draft.now.lists.items c.args.list.now c.args.place c.args.best
-    (joins_of case c.args.draft.now.lists.items c.args.list.now c.args.place c.index-brokers-place.result c.requires.place (rw c.brokers.ensures.value at here) ∙ sym c.may_join.ensures ∙ search rules) c.requires.best
+pub returns-in-None-clause-least : goal.returns-in-None-clause-least
+returns-in-None-clause-least c = more_first c.args.case.now c.args.draft.now.lists.items c.args.list.now c.args.place c.candidate.result c.candidate.ensures (rw c.in-None.is at c.requires.least)
 
-pub returns-in-None : goal.returns-in-None
-returns-in-None c =
-    let case = c.args.case.now in
-    let here : c.index-brokers-place.result ≡ _ = c.index-brokers-place.is in
-    first_least case c.args.draft.now.lists.items c.args.list.now c.args.place
-    (joins_of case c.args.draft.now.lists.items c.args.list.now c.args.place c.index-brokers-place.result c.requires.place (rw c.brokers.ensures.value at here) ∙ sym c.may_join.ensures ∙ search rules)
-    (rw c.in-None.is at c.requires.best)
-
-pub returns-then-precedes : goal.returns-then-precedes
-returns-then-precedes c =
-    let case = c.args.case.now in
-    let here : c.index-brokers-place.result ≡ _ = c.index-brokers-place.is in
-    new_least case c.args.draft.now.lists.items c.args.list.now c.args.place c.in-Some.old
-    (joins_of case c.args.draft.now.lists.items c.args.list.now c.args.place c.index-brokers-place.result c.requires.place (rw c.brokers.ensures.value at here) ∙ sym c.may_join.ensures ∙ search rules)
-    (sym c.precedes.ensures ∙ c.if-precedes.true) (rw c.in-Some.is at c.requires.best)
+pub returns-in-Some-candidate-clause-least : goal.returns-in-Some-candidate-clause-least
+returns-in-Some-candidate-clause-least c =
+    more_new c.args.case.now c.args.draft.now.lists.items c.args.list.now c.args.place c.in-Some.old.place c.in-Some-candidate.new (rw c.in-Some-candidate.is at c.candidate-in-Some.ensures)
+    (sym c.precedes.ensures ∙ c.if-not-precedes.false) (rw c.in-Some.is at c.requires.least)
