@@ -184,8 +184,8 @@ ENDS = (
     End(8, ("session",), LEFT, "the replies so far", "not drained", only="with --movers or --planners"),
     End(8, ("serve",), LEFT, NOTHING, "not drained"),
     End(9, AT_ONCE, "out of memory", NOTHING, "want of memory"),
-    End(9, ("session",), "out of memory", "the replies so far", "want of memory"),
-    End(9, ("serve",), "out of memory, also where a link alone ended by it", NOTHING, "want of memory"),
+    End(9, ("session",), "out of memory, also where a mover or a planner alone ended by it", "the replies so far", "want of memory"),
+    End(9, ("serve",), "out of memory, also where a link, a mover or a planner alone ended by it", NOTHING, "want of memory"),
     End(10, ("session",), "the input ended inside a request, or can't be framed; what was left is carried out", "the replies, also that of the refusal", "input cut"),
     End(11, ("check",), "the trace isn't good, or is no trace", "fault T A KIND", "trace refused"),
     End(

@@ -106,6 +106,8 @@ class Tools(unittest.TestCase):
             ("compare-plans", "--program", "/none"),
             ("compare-plans", "--program", "true"),
             ("executions", "--calls", "x"),
+            ("fail-allocations", "plan", "gen"),
+            ("fail-allocations", "--program", "/none"),
             ("explain", zones, "--plan"),
             ("explain", zones, "--plans"),
             ("show-plan", zones, good, "--html", "--rollback"),

@@ -1,13 +1,13 @@
 -- Why a run with threads ended so.
-use Rattle.std.proofs.Common.{◌≡◌, ◌⊎◌, ◌≤◌, inl, inr, ℕ, Bool, true, false, List, length, refl, ap, sym, ◌∙◌, subst, arith}
-use Rattle.std.specs.Prelude.{Option, Some, None, IfSome, Ok, Err, option_map}
-use Rattle.std.specs.List.{list_any}
+use Rattle.std.proofs.Common.{◌≡◌, ◌⊎◌, ◌≤◌, ◌<◌, inl, inr, ℕ, Bool, true, false, List, length, refl, ap, sym, ◌∙◌, subst, arith}
+use Rattle.std.specs.Prelude.{Option, Some, None, IfSome, Ok, Err}
 use Rattle.cc_base.specs.Outside.{HasRisen}
 use Rattle.cluster_json.specs.Faults.{Fault}
 use Rattle.cluster_json.specs.File.{Meaning}
 use Rattle.control_core.specs.Books.{BookView}
+use Rattle.live_service.specs.Asked.{ServingAsked}
 use Rattle.live_service.specs.Fronts.{HasAnswered}
-use Rattle.live_service.specs.Views.{FrontView, ServedView}
+use Rattle.live_service.specs.Views.{FrontTold, TeamView, told_of}
 use Rattle.live_service.specs.Workers.{Pass}
 use Rattle.live_service.specs.declared.front.FrontEnd.{FrontEnd}
 use Rattle.live_service.specs.declared.front.FrontEnd.TheVariants as front
@@ -20,38 +20,49 @@ use Rattle.rest_session.specs.declared.session.LinkEnd.TheVariants as link
 use Rattle.rest_stream.specs.Stream.{Requests, stopped}
 use Rattle.rest_stream.specs.declared.raw.RawRequest.{RawRequest}
 use Rattle.rest_stream.specs.declared.raw.Stop.{Stop}
-use Rattle.cc_program.specs.Complete.{HasLiveFailed, IsCutSession, IsLiveCause, IsLiveGiven, IsServed}
+use Rattle.cc_program.specs.Complete.{HasLiveFailed, IsCauseBy, IsCutSession, IsLiveGiven, IsServed}
 use Rattle.quiet_commands.specs.Input.{IsRefused, Means}
-use Rattle.quiet_commands.specs.Ends.{status_of}
-use Rattle.cc_program.specs.Lives.{Gate, IsLeft, IsLiveOf, IsNotBegun, IsUnasked, IsUnread, Leaves, LiveAsked, Outside, ServingAsked, Shelf, copiers_before, ended_live, is_want, live_command, with_copier}
+use Rattle.quiet_commands.specs.Ends.{IsTold, lines_of, status_of}
+use Rattle.cc_program.specs.Lives.{Gate, IsLeftFrom, IsLiveOf, IsLiveRefusal, IsNotBegun, IsUnasked, IsUnread, Leaves, LiveAsked, Shelf, any_want, copiers_before, ended_live, live_command, or_want}
+use Rattle.cc_program.specs.Outside.{LeftView, OutsideView}
 use Rattle.quiet_commands.specs.Sessions.{drained_end}
 use Rattle.quiet_commands.specs.declared.ends.End.{End}
 use Rattle.quiet_commands.specs.declared.ends.End.TheVariants as end
 use Rattle.quiet_commands.proofs.Streams.{if_told, never_cut}
 
-module _ {A : Type 0} (gate : Gate A) (words : List (List ℕ)) (files : Shelf) (old new : Outside) (links : List ServedView) (admin : A) (back : Option A) where
+same_asked : (words : List (List ℕ)) (a b : LiveAsked) → live_command words ≡ Some a → live_command words ≡ Some b → a ≡ b
+same_asked words a b h k = (let i : Some a ≡ Some b = sym h ∙ k in cc)
+
+-- a command that there are copiers enough for is asked
+pub is_asked : (words : List (List ℕ)) (copiers : ℕ) (asked : LiveAsked) → live_command words ≡ Some asked → copiers_before asked.crew < copiers → IsUnasked words copiers → ⊥
+is_asked words copiers asked means enough (inl none) = (let i : None ≡ Some asked = sym none ∙ means in cc)
+is_asked words copiers asked means enough (inr many) =
+    let same : many.asked ≡ asked = same_asked words many.asked asked many.means means in
+    absurd (omega (arith, enough, subst (λ (a : LiveAsked). copiers ≤ copiers_before a.crew) same many.few))
+
+module _ {A : Type 0} (gate : Gate A) (words : List (List ℕ)) (files : Shelf) (o : OutsideView) (admin : A) (l : LeftView A) where
   abbrev Cause : Option (BookView A) → End → Type 0
-  Cause book way = IsLiveCause gate words files old new admin back book way
+  Cause book way = IsCauseBy gate words files o admin l book way
 
   -- no file was read
-  unread : (book : Option (BookView A)) (way : End) → IsUnread words (length old.copiers) files way → Cause book way
-  unread book end.Usage h = h.0
-  unread book (end.Refused line) h = h
-  unread book end.FileFault h = h
-  unread book end.Memory h = tt
-  unread book end.Done h = absurd h
-  unread book (end.GoalFailed line) h = absurd h
-  unread book end.ReadFault h = absurd h
-  unread book end.WriteFault h = absurd h
-  unread book end.NotDrained h = absurd h
-  unread book end.InputCut h = absurd h
-  unread book end.TraceRefused h = absurd h
-  unread book end.ListenerFault h = absurd h
+  unread : (book : Option (BookView A)) (way : End) → l.drain ≡ None → IsUnread words (length o.copiers) files way → Cause book way
+  unread book end.Usage none h = h.0
+  unread book (end.Refused line) none h = (h, none)
+  unread book end.FileFault none h = h
+  unread book end.Memory none h = tt
+  unread book end.Done none h = absurd h
+  unread book (end.GoalFailed line) none h = absurd h
+  unread book end.ReadFault none h = absurd h
+  unread book end.WriteFault none h = absurd h
+  unread book end.NotDrained none h = absurd h
+  unread book end.InputCut none h = absurd h
+  unread book end.TraceRefused none h = absurd h
+  unread book end.ListenerFault none h = absurd h
 
   -- what a front answered, by how it ended
-  module _ (asked : LiveAsked) (means : live_command words ≡ Some asked) (file : Meaning) (f g : FrontView) (k l : List Copies) (v w : Pass) where
+  module _ (asked : LiveAsked) (means : live_command words ≡ Some asked) (file : Meaning) (f g : FrontTold) (k j : List Copies) (v w : Pass) where
     abbrev Answered : Option ServingAsked → FrontEnd → Type 0
-    Answered s e = HasAnswered file (option_map (λ (x : ServingAsked). x.links) s) f g links e k l v w
+    Answered s e = HasAnswered file s f g e k j v w
 
     stops : (raws : List RawRequest) (e : LinkEnd) → asked.crew.serving ≡ None → (e ≡ link.Cut) ⊎ (e ≡ link.Unframed) → (why : Stop) → end_of why ≡ e → IfSome f.console.left (λ s. Requests 0 s raws (stopped why)) → IsCutSession words f.console.left
     stops raws e is how why same told = record { asked = asked; means = means; of_console = is; raws = raws; why = why; cut = subst (λ (x : LinkEnd). (x ≡ link.Cut) ⊎ (x ≡ link.Unframed)) (sym same) how; stops = λ stream at. if_told f.console.left (λ s. Requests 0 s raws (stopped why)) stream at told }
@@ -73,39 +84,53 @@ module _ {A : Type 0} (gate : Gate A) (words : List (List ℕ)) (files : Shelf) 
     unwritten None h = h.0.cause.write_fault refl
 
     unlistened : (s : Option ServingAsked) → Answered s front.ListenerFault → HasRisen f.net.faults g.net.faults
-    unlistened (Some x) h = h.2
+    unlistened (Some x) h = h.1.risen
     unlistened None h = absurd h
 
   module _ (asked : LiveAsked) (means : live_command words ≡ Some asked) (m : Meaning) where
     -- a book was begun
-    module _ (c : BookView A) (e : FrontEnd) (d : DrainEnd) (l : IsLiveOf gate m asked.crew old new links c e d) where
-      drained : Cause (Some c) (drained_end d)
-      drained = by d refl where
+    module _ (c : BookView A) (e : FrontEnd) (d : DrainEnd) (h : IsLiveOf gate m asked.crew o l c e d) where
+      drained : (want : Bool) → Cause (Some c) (drained_end (or_want want d))
+      drained true = tt
+      drained false = by d refl where
         by : (x : DrainEnd) → d ≡ x → Cause (Some c) (drained_end x)
         by drain.Drained is = tt
-        by (drain.AdminFault n) is = record { settled = l.live.settled; settled_is = ap (λ (b : BookView A). b.settled) l.live.settled_is; since = l.live.behind.since; risen = l.live.behind.risen n is }
+        by (drain.AdminFault n) is = h.late n is
         by drain.Memory is = tt
 
-    over : (c : BookView A) (e : FrontEnd) (want : Bool) (d : DrainEnd) → IsLiveOf gate m asked.crew old new links c e d → Cause (Some c) (ended_live e want d)
-    over c (front.Console link.Ended) want d l = drained c (front.Console link.Ended) d l
-    over c (front.Console link.Closed) want d l = drained c (front.Console link.Closed) d l
-    over c (front.Console link.Cut) want d l = let r = l.live.shared.run.run in cut asked means l.b.file (with_copier l.before old) (record { copier = l.live.between; console = new.console; net = new.net }) r.others_old r.others_new r.begun r.did.served asked.crew.serving refl r.did.answered
-    over c (front.Console link.Unframed) want d l = let r = l.live.shared.run.run in unframed asked means l.b.file (with_copier l.before old) (record { copier = l.live.between; console = new.console; net = new.net }) r.others_old r.others_new r.begun r.did.served asked.crew.serving refl r.did.answered
-    over c (front.Console link.ReadFault) want d l = let r = l.live.shared.run.run in unread_more asked means l.b.file (with_copier l.before old) (record { copier = l.live.between; console = new.console; net = new.net }) r.others_old r.others_new r.begun r.did.served asked.crew.serving r.did.answered
-    over c (front.Console link.WriteFault) want d l = let r = l.live.shared.run.run in unwritten asked means l.b.file (with_copier l.before old) (record { copier = l.live.between; console = new.console; net = new.net }) r.others_old r.others_new r.begun r.did.served asked.crew.serving r.did.answered
-    over c (front.Console link.Memory) want d l = tt
-    over c front.Accepted true d l = tt
-    over c front.Accepted false d l = drained c front.Accepted d l
-    over c front.ListenerFault want d l = let r = l.live.shared.run.run in unlistened asked means l.b.file (with_copier l.before old) (record { copier = l.live.between; console = new.console; net = new.net }) r.others_old r.others_new r.begun r.did.served asked.crew.serving r.did.answered
+      -- the drain leaves the console and the listener as the front did
+      back_console : l.outside.console ≡ h.live.between.front.console
+      back_console = h.back_is.team.console ∙ sym (ap (λ (t : TeamView). t.front.console) h.live.between_is)
+
+      back_net : l.outside.net ≡ h.live.between.front.service.net
+      back_net = h.back_is.team.net ∙ sym (ap (λ (t : TeamView). t.front.service.net) h.live.between_is)
+
+      -- what the front answered, told of the outside before and after
+      abbrev asked_before : FrontTold
+      asked_before = told_of h.given.front
+
+      abbrev asked_behind : FrontTold
+      asked_behind = told_of h.live.between.front
+
+    over : (c : BookView A) (e : FrontEnd) (want : Bool) (d : DrainEnd) → IsLiveOf gate m asked.crew o l c e d → Cause (Some c) (ended_live e want d)
+    over c (front.Console link.Ended) want d h = drained c (front.Console link.Ended) d h want
+    over c (front.Console link.Closed) want d h = drained c (front.Console link.Closed) d h want
+    over c (front.Console link.Cut) want d h = let r = h.live.shared.run.run in rw h.given_is.console (cut asked means h.b.file (asked_before c (front.Console link.Cut) d h) (asked_behind c (front.Console link.Cut) d h) r.others_old r.others_new r.begun r.did.served asked.crew.serving refl r.did.answered)
+    over c (front.Console link.Unframed) want d h = let r = h.live.shared.run.run in rw h.given_is.console (unframed asked means h.b.file (asked_before c (front.Console link.Unframed) d h) (asked_behind c (front.Console link.Unframed) d h) r.others_old r.others_new r.begun r.did.served asked.crew.serving refl r.did.answered)
+    over c (front.Console link.ReadFault) want d h = let r = h.live.shared.run.run in rw (h.given_is.console, back_console c (front.Console link.ReadFault) d h) (unread_more asked means h.b.file (asked_before c (front.Console link.ReadFault) d h) (asked_behind c (front.Console link.ReadFault) d h) r.others_old r.others_new r.begun r.did.served asked.crew.serving r.did.answered)
+    over c (front.Console link.WriteFault) want d h = let r = h.live.shared.run.run in rw (h.given_is.console, back_console c (front.Console link.WriteFault) d h) (unwritten asked means h.b.file (asked_before c (front.Console link.WriteFault) d h) (asked_behind c (front.Console link.WriteFault) d h) r.others_old r.others_new r.begun r.did.served asked.crew.serving r.did.answered)
+    over c (front.Console link.Memory) want d h = tt
+    over c front.Accepted want d h = drained c front.Accepted d h want
+    over c front.ListenerFault want d h = let r = h.live.shared.run.run in rw (h.given_is.net, back_net c front.ListenerFault d h) (unlistened asked means h.b.file (asked_before c front.ListenerFault d h) (asked_behind c front.ListenerFault d h) r.others_old r.others_new r.begun r.did.served asked.crew.serving r.did.answered)
 
     -- none was begun
-    unbegun : (way : End) → IsNotBegun gate admin back way → Cause None way
-    unbegun way h = by back h where
-      by : (b : Option A) → IsNotBegun gate admin b way → IsLiveCause gate words files old new admin b None way
+    unbegun : (way : End) → IsNotBegun gate admin l.admin way → Cause None way
+    unbegun way h = by l.admin h where
+      by : (b : Option A) → IsNotBegun gate admin b way → IsCauseBy gate words files o admin (record l { admin = b }) None way
       by None h = absurd h
       by (Some a) h = at way h where
-        at : (x : End) → IsNotBegun gate admin (Some a) x → IsLiveCause gate words files old new admin (Some a) None x
-        at end.NotDrained i = i
+        at : (x : End) → IsNotBegun gate admin (Some a) x → IsCauseBy gate words files o admin (record l { admin = Some a }) None x
+        at end.NotDrained i = i.0
         at end.Memory i = tt
         at end.Done i = absurd i
         at end.Usage i = absurd i
@@ -118,78 +143,88 @@ module _ {A : Type 0} (gate : Gate A) (words : List (List ℕ)) (files : Shelf) 
         at end.TraceRefused i = absurd i
         at end.ListenerFault i = absurd i
 
-    left_so : (book : Option (BookView A)) (way : End) → IsLeft gate m asked.crew old new links admin back book way → Cause book way
+    left_so : (book : Option (BookView A)) (way : End) → IsLeftFrom gate m asked.crew o admin l book way → Cause book way
     left_so None way h = unbegun way h.0
     left_so (Some c) way (inl h) = subst (Cause (Some c)) (sym h.0) tt
-    left_so (Some c) way (inr h) = subst (Cause (Some c)) (sym h.2) (over c h.0 (list_any is_want links) h.1 h.3)
+    left_so (Some c) way (inr h) = subst (Cause (Some c)) (sym h.3) (over c h.0 (any_want l) h.1 h.4)
 
   -- what a run left tells why it ended so
-  pub caused : (book : Option (BookView A)) (way : End) → Leaves gate words files old new links admin back book way → Cause book way
-  caused book way (inl h) = unread book way h.0
-  caused book way (inr a) = left_so a.asked a.means a.file book way a.answered
+  pub caused : (way : End) → Leaves gate words files o admin l way → Cause l.book way
+  caused way (inl h) = unread l.book way h.3.drain h.0
+  caused way (inr a) = left_so a.asked a.means a.file l.book way a.answered
 
   -- the status 2
-  pub usage : (book : Option (BookView A)) (way : End) → status_of way ≡ 2 → Cause book way → IsUnasked words (length old.copiers)
-  usage book end.Usage e h = h
-  usage book end.Done e h = absurd (omega (arith, e))
-  usage book (end.Refused line) e h = absurd (omega (arith, e))
-  usage book (end.GoalFailed line) e h = absurd (omega (arith, e))
-  usage book end.FileFault e h = absurd (omega (arith, e))
-  usage book end.ReadFault e h = absurd (omega (arith, e))
-  usage book end.WriteFault e h = absurd (omega (arith, e))
-  usage book end.NotDrained e h = absurd (omega (arith, e))
-  usage book end.Memory e h = absurd (omega (arith, e))
-  usage book end.InputCut e h = absurd (omega (arith, e))
-  usage book end.TraceRefused e h = absurd (omega (arith, e))
-  usage book end.ListenerFault e h = absurd (omega (arith, e))
+  pub usage : (way : End) → status_of way ≡ 2 → Cause l.book way → IsUnasked words (length o.copiers)
+  usage end.Usage e h = h
+  usage end.Done e h = absurd (omega (arith, e))
+  usage (end.Refused line) e h = absurd (omega (arith, e))
+  usage (end.GoalFailed line) e h = absurd (omega (arith, e))
+  usage end.FileFault e h = absurd (omega (arith, e))
+  usage end.ReadFault e h = absurd (omega (arith, e))
+  usage end.WriteFault e h = absurd (omega (arith, e))
+  usage end.NotDrained e h = absurd (omega (arith, e))
+  usage end.Memory e h = absurd (omega (arith, e))
+  usage end.InputCut e h = absurd (omega (arith, e))
+  usage end.TraceRefused e h = absurd (omega (arith, e))
+  usage end.ListenerFault e h = absurd (omega (arith, e))
+
+  -- the status 3: the line is told, and no other
+  pub refused_told : (way : End) → status_of way ≡ 3 → Cause l.book way → (old new : Option (List ℕ)) (before now : ℕ) → IsTold (lines_of l.drain way) old new before now → (line : List ℕ) × IsLiveRefusal words files line × IsTold line old new before now
+  refused_told (end.Refused line) e h old new before now told = (line.items, h.0, subst (λ (d : Option DrainEnd). IsTold (lines_of d (end.Refused line)) old new before now) h.1 told)
+  refused_told end.Usage e h old new before now told = absurd (omega (arith, e))
+  refused_told end.Done e h old new before now told = absurd (omega (arith, e))
+  refused_told (end.GoalFailed line) e h old new before now told = absurd (omega (arith, e))
+  refused_told end.FileFault e h old new before now told = absurd (omega (arith, e))
+  refused_told end.ReadFault e h old new before now told = absurd (omega (arith, e))
+  refused_told end.WriteFault e h old new before now told = absurd (omega (arith, e))
+  refused_told end.NotDrained e h old new before now told = absurd (omega (arith, e))
+  refused_told end.Memory e h old new before now told = absurd (omega (arith, e))
+  refused_told end.InputCut e h old new before now told = absurd (omega (arith, e))
+  refused_told end.TraceRefused e h old new before now told = absurd (omega (arith, e))
+  refused_told end.ListenerFault e h old new before now told = absurd (omega (arith, e))
 
   -- a file that is refused has no meaning
   no_meaning : (bytes : List ℕ) (m : Meaning) (fault : Fault) → Means bytes m → IsRefused bytes fault → ⊥
   no_meaning bytes m fault h r = (let i : Ok m ≡ Err fault = sym h ∙ r in cc)
 
-  same_asked : (a b : LiveAsked) → live_command words ≡ Some a → live_command words ≡ Some b → a ≡ b
-  same_asked a b h k = (let i : Some a ≡ Some b = sym h ∙ k in cc)
-
   -- where all is as it should be, only a call outside that failed, or want of memory, stands in the way
-  pub whole : (book : Option (BookView A)) → IsLiveGiven words files old → (way : End) → Cause book way → (status_of way ≡ 0) ⊎ (status_of way ≡ 9) ⊎ HasLiveFailed gate files old new admin back book
-  whole book given end.Done h = inl refl
-  whole book given end.Memory h = inr (inl refl)
-  whole book given end.Usage (inl none) = absurd (let i : None ≡ Some given.asked = sym none ∙ given.means in cc)
-  whole book given end.Usage (inr many) =
-      let same : many.asked ≡ given.asked = same_asked many.asked given.asked many.means given.means in
-      absurd (omega (arith, given.enough, subst (λ (a : LiveAsked). length old.copiers ≤ copiers_before a.crew) same many.few))
-  whole book given (end.Refused line) h =
-      let same : h.asked ≡ given.asked = same_asked h.asked given.asked h.means given.means in
-      let told : IfSome (files.told given.asked.file) (λ bytes. IsRefused bytes h.fault) = subst (λ (a : LiveAsked). IfSome (files.told a.file) (λ bytes. IsRefused bytes h.fault)) same h.refused in
-      absurd (no_meaning given.bytes given.file h.fault given.meant (if_told (files.told given.asked.file) (λ bytes. IsRefused bytes h.fault) given.bytes given.told told))
-  whole book given end.FileFault h = inr (inr (inl h.1))
-  whole book given end.ReadFault h = inr (inr (inr (inl h)))
-  whole book given end.WriteFault h = inr (inr (inr (inr (inl h))))
-  whole book given end.ListenerFault h = inr (inr (inr (inr (inr (inl h)))))
-  whole book given end.NotDrained h = inr (inr (inr (inr (inr (inr h)))))
-  whole book given end.InputCut h =
-      let same : h.asked ≡ given.asked = same_asked h.asked given.asked h.means given.means in
-      let served : IsServed None old.console.left = subst (λ (s : Option ServingAsked). IsServed s old.console.left) (sym (ap (λ (a : LiveAsked). a.crew.serving) same) ∙ h.of_console) given.served in
+  pub whole : IsLiveGiven words files o → (way : End) → Cause l.book way → (status_of way ≡ 0) ⊎ (status_of way ≡ 9) ⊎ HasLiveFailed gate files o admin l
+  whole given end.Done h = inl refl
+  whole given end.Memory h = inr (inl refl)
+  whole given end.Usage h = absurd (is_asked words (length o.copiers) given.asked given.means given.enough h)
+  whole given (end.Refused line) h =
+      let refused = h.0 in
+      let same : refused.asked ≡ given.asked = same_asked words refused.asked given.asked refused.means given.means in
+      let told : IfSome (files.told given.asked.file) (λ bytes. IsRefused bytes refused.fault) = subst (λ (a : LiveAsked). IfSome (files.told a.file) (λ bytes. IsRefused bytes refused.fault)) same refused.refused in
+      absurd (no_meaning given.bytes given.file refused.fault given.meant (if_told (files.told given.asked.file) (λ bytes. IsRefused bytes refused.fault) given.bytes given.told told))
+  whole given end.FileFault h = inr (inr (inl h.1))
+  whole given end.ReadFault h = inr (inr (inr (inl h)))
+  whole given end.WriteFault h = inr (inr (inr (inr (inl h))))
+  whole given end.ListenerFault h = inr (inr (inr (inr (inr (inl h)))))
+  whole given end.NotDrained h = inr (inr (inr (inr (inr (inr h)))))
+  whole given end.InputCut h =
+      let same : h.asked ≡ given.asked = same_asked words h.asked given.asked h.means given.means in
+      let served : IsServed None o.console.left = subst (λ (s : Option ServingAsked). IsServed s o.console.left) (sym (ap (λ (a : LiveAsked). a.crew.serving) same) ∙ h.of_console) given.served in
       absurd (never_cut served.stream h.raws h.why served.whole h.cut (h.stops served.stream served.told))
-  whole book given (end.GoalFailed line) h = absurd h
-  whole book given end.TraceRefused h = absurd h
+  whole given (end.GoalFailed line) h = absurd h
+  whole given end.TraceRefused h = absurd h
 
   -- a file with a fault is refused, unless the words, the files or memory stand in the way
-  pub refuses : (book : Option (BookView A)) (bytes : List ℕ) (asked : LiveAsked) (fault : Fault) → live_command words ≡ Some asked → files.told asked.file ≡ Some bytes → IsRefused bytes fault → (way : End) → Leaves gate words files old new links admin back book way
+  pub refuses : (bytes : List ℕ) (asked : LiveAsked) (fault : Fault) → live_command words ≡ Some asked → files.told asked.file ≡ Some bytes → IsRefused bytes fault → (way : End) → Leaves gate words files o admin l way
       → (status_of way ≡ 2) ⊎ (status_of way ≡ 3) ⊎ (status_of way ≡ 5) ⊎ (status_of way ≡ 9)
-  refuses book bytes asked fault means told refused way (inr a) =
-      let same : a.asked ≡ asked = same_asked a.asked asked a.means means in
+  refuses bytes asked fault means told refused way (inr a) =
+      let same : a.asked ≡ asked = same_asked words a.asked asked a.means means in
       let meant : IfSome (files.told asked.file) (λ b. Means b a.file) = subst (λ (x : LiveAsked). IfSome (files.told x.file) (λ b. Means b a.file)) same a.meant in
       absurd (no_meaning bytes a.file fault (if_told (files.told asked.file) (λ b. Means b a.file) bytes told meant) refused)
-  refuses book bytes asked fault means told refused end.Usage (inl h) = inl refl
-  refuses book bytes asked fault means told refused (end.Refused line) (inl h) = inr (inl refl)
-  refuses book bytes asked fault means told refused end.FileFault (inl h) = inr (inr (inl refl))
-  refuses book bytes asked fault means told refused end.Memory (inl h) = inr (inr (inr refl))
-  refuses book bytes asked fault means told refused end.Done (inl h) = absurd h.0
-  refuses book bytes asked fault means told refused (end.GoalFailed line) (inl h) = absurd h.0
-  refuses book bytes asked fault means told refused end.ReadFault (inl h) = absurd h.0
-  refuses book bytes asked fault means told refused end.WriteFault (inl h) = absurd h.0
-  refuses book bytes asked fault means told refused end.NotDrained (inl h) = absurd h.0
-  refuses book bytes asked fault means told refused end.InputCut (inl h) = absurd h.0
-  refuses book bytes asked fault means told refused end.TraceRefused (inl h) = absurd h.0
-  refuses book bytes asked fault means told refused end.ListenerFault (inl h) = absurd h.0
+  refuses bytes asked fault means told refused end.Usage (inl h) = inl refl
+  refuses bytes asked fault means told refused (end.Refused line) (inl h) = inr (inl refl)
+  refuses bytes asked fault means told refused end.FileFault (inl h) = inr (inr (inl refl))
+  refuses bytes asked fault means told refused end.Memory (inl h) = inr (inr (inr refl))
+  refuses bytes asked fault means told refused end.Done (inl h) = absurd h.0
+  refuses bytes asked fault means told refused (end.GoalFailed line) (inl h) = absurd h.0
+  refuses bytes asked fault means told refused end.ReadFault (inl h) = absurd h.0
+  refuses bytes asked fault means told refused end.WriteFault (inl h) = absurd h.0
+  refuses bytes asked fault means told refused end.NotDrained (inl h) = absurd h.0
+  refuses bytes asked fault means told refused end.InputCut (inl h) = absurd h.0
+  refuses bytes asked fault means told refused end.TraceRefused (inl h) = absurd h.0
+  refuses bytes asked fault means told refused end.ListenerFault (inl h) = absurd h.0

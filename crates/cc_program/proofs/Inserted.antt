@@ -1,13 +1,13 @@
 -- A copier that is taken out of a list, and put back.
 use Rattle.std.proofs.Common.{◌≡◌, ◌<◌, ℕ, true, false, zero, suc, List, [], ◌∷◌, length, map, slice_index_or, refl, ap, sym, ◌∙◌, arith}
 use Rattle.std.specs.List.{insert, remove}
-use Rattle.std.specs.Prelude.{Option, Some, None, IfSome, IsSome, option_map}
+use Rattle.std.specs.Prelude.{Option, Some, None, IfSome, IsSome}
 use Rattle.cluster_json.specs.File.{Meaning}
 use Rattle.control_core.specs.Books.{BookView}
 use Rattle.live_service.specs.Asked as asked
-use Rattle.live_service.specs.Views.{ServedView}
 use Rattle.live_service.specs.declared.links.Serving.{Serving}
-use Rattle.cc_program.specs.Lives.{CrewAsked, Gate, IsLeft, IsOver, Outside, links_in, serving_told}
+use Rattle.cc_program.specs.Lives.{CrewAsked, Gate, IsLeftFrom, IsOver, links_in}
+use Rattle.cc_program.specs.Outside.{LeftView, OutsideView}
 use Rattle.quiet_commands.specs.declared.ends.End.{End}
 
 pub put_back : {X : Type 0} (xs : List X) (n : ℕ) (x : X) → n < length xs → x ≡ slice_index_or xs n x → xs ≡ insert (remove xs n) n x
@@ -27,16 +27,12 @@ pub put_in : {X Y : Type 0} (f : X → Y) (xs ys : List X) (n : ℕ) (x : X) →
 put_in f xs ys n x e = ap (map f) e ∙ map_insert f xs n x
 
 -- a book that was begun
-pub left_begun : {A : Type 0} (gate : Gate A) (m : Meaning) (crew : CrewAsked) (old new : Outside) (links : List ServedView) (admin : A) (back : Option A) (book : Option (BookView A)) (end : End)
-    → IsSome book → IfSome book (λ c. IsOver gate m crew old new links c end) → IsLeft gate m crew old new links admin back book end
-left_begun gate m crew old new links admin back None end is over = absurd (let h : false ≡ true = is in cc)
-left_begun gate m crew old new links admin back (Some c) end is over = over
+pub left_begun : {A : Type 0} (gate : Gate A) (m : Meaning) (crew : CrewAsked) (o : OutsideView) (admin : A) (l : LeftView A) (book : Option (BookView A)) (end : End)
+    → IsSome book → IfSome book (λ c. IsOver gate m crew o l c end) → IsLeftFrom gate m crew o admin l book end
+left_begun gate m crew o admin l None end is over = absurd (let h : false ≡ true = is in cc)
+left_begun gate m crew o admin l (Some c) end is over = over
 
 -- links, as a value of the program and as the words ask for them
-pub links_told : (s : Option Serving) → asked.links_asked s ≡ option_map (λ x. x.links) (serving_told s)
-links_told None = refl
-links_told (Some s) = refl
-
-pub links_counted : (s : Option Serving) → asked.links_of s ≡ links_in (serving_told s)
+pub links_counted : (s : Option Serving) → asked.links_of s ≡ links_in (asked.serving_told s)
 links_counted None = refl
 links_counted (Some s) = refl

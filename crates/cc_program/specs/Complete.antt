@@ -1,16 +1,17 @@
 -- When a run with threads ends so, and when it has to end well.
-use Rattle.std.specs.Prelude.{◌≡◌, ◌<◌, ◌⊎◌, ℕ, true, List, length, Option, Some, None}
+use Rattle.std.specs.Prelude.{◌≡◌, ◌<◌, ◌≤◌, ◌⊎◌, ℕ, List, length, Option, Some, None}
 use Rattle.cc_base.specs.Outside.{HasRisen}
 use Rattle.cluster_json.specs.File.{Meaning}
 use Rattle.control_core.specs.Books.{BookView}
-use Rattle.mover_rounds.specs.Owned.{IsSince}
 use Rattle.rest_session.specs.Answered.{end_of}
 use Rattle.rest_session.specs.declared.session.LinkEnd.TheVariants as link
 use Rattle.rest_stream.specs.Stream.{Requests, stopped}
 use Rattle.rest_stream.specs.declared.raw.RawRequest.{RawRequest}
 use Rattle.rest_stream.specs.declared.raw.Stop.{Stop}
 use Rattle.quiet_commands.specs.Input.{Means}
-use Rattle.cc_program.specs.Lives.{Gate, IsLiveRefusal, IsUnasked, LiveAsked, Outside, ServingAsked, Shelf, copiers_before, live_command}
+use Rattle.live_service.specs.Asked.{ServingAsked}
+use Rattle.cc_program.specs.Lives.{Gate, IsLiveRefusal, IsUnasked, LiveAsked, Shelf, copiers_before, live_command}
+use Rattle.cc_program.specs.Outside.{LeftView, OutsideView}
 use Rattle.quiet_commands.specs.declared.ends.End.{End}
 use Rattle.quiet_commands.specs.declared.ends.End.TheVariants.{Usage, Refused, GoalFailed, FileFault, ReadFault, WriteFault, NotDrained, InputCut, TraceRefused, ListenerFault}
 use Rattle.quiet_commands.specs.Complete.{HasWholeInput}
@@ -25,40 +26,45 @@ pub record IsCutSession (words : List (List ℕ)) (left : Option (List ℕ)) : T
   pub cut : (end_of why ≡ link.Cut) ⊎ (end_of why ≡ link.Unframed)
   pub stops : (stream : List ℕ) → left ≡ Some stream → Requests 0 stream raws (stopped why)
 
--- a call of the admin failed behind a book's settling; while the book was begun; or one of both
-pub record HasFailedLate {A : Type 0} (gate : Gate A) (c : BookView A) : Type 0 where
-  pub settled : BookView A
-  pub settled_is : settled.settled ≡ true
-  pub since : IsSince gate.faults settled c
-  pub risen : HasRisen (gate.faults settled.admin) (gate.faults c.admin)
+-- a call of the admin failed behind a book's settling, or it can't be told, since as many failed before as can be counted
+abbrev pub HasFailedLate : {A : Type 0} → BookView A → Type 0
+HasFailedLate c = (1 ≤ c.late) ⊎ (18446744073709551615 ≤ c.failures)
 
+-- or while the book was begun
 abbrev pub HasFailedFirst : {A : Type 0} → Gate A → A → Option A → Type 0
 HasFailedFirst gate admin None = ⊥
 HasFailedFirst gate admin (Some back) = HasRisen (gate.faults admin) (gate.faults back)
 
-abbrev pub AdminFailed : {A : Type 0} → Gate A → A → Option A → Option (BookView A) → Type 0
-AdminFailed gate admin back None = HasFailedFirst gate admin back
-AdminFailed gate admin back (Some c) = HasFailedLate gate c
+abbrev pub HasFailedBy : {A : Type 0} → Gate A → A → Option A → Option (BookView A) → Type 0
+HasFailedBy gate admin back None = HasFailedFirst gate admin back
+HasFailedBy gate admin back (Some c) = HasFailedLate c
 
--- why a run ended so
-abbrev pub IsLiveCause : {A : Type 0} → Gate A → List (List ℕ) → Shelf → Outside → Outside → A → Option A → Option (BookView A) → End → Type 0
-IsLiveCause gate words files old new admin back book Usage = IsUnasked words (length old.copiers)
-IsLiveCause gate words files old new admin back book (Refused line) = IsLiveRefusal words files line.items
-IsLiveCause gate words files old new admin back book FileFault = ((asked : LiveAsked) × (live_command words ≡ Some asked)) × HasRisen files.before files.now
-IsLiveCause gate words files old new admin back book ReadFault = HasRisen old.console.reads new.console.reads
-IsLiveCause gate words files old new admin back book WriteFault = HasRisen old.console.writes new.console.writes
-IsLiveCause gate words files old new admin back book NotDrained = AdminFailed gate admin back book
-IsLiveCause gate words files old new admin back book InputCut = IsCutSession words old.console.left
-IsLiveCause gate words files old new admin back book ListenerFault = HasRisen old.net.faults new.net.faults
-IsLiveCause gate words files old new admin back book (GoalFailed line) = ⊥
-IsLiveCause gate words files old new admin back book TraceRefused = ⊥
-IsLiveCause gate words files old new admin back book _ = Unit {0}
+-- one of both, by what a run left
+abbrev pub AdminFailed : {A : Type 0} → Gate A → A → LeftView A → Type 0
+AdminFailed gate admin l = HasFailedBy gate admin l.admin l.book
+
+-- why a run ended so that left this book
+abbrev pub IsCauseBy : {A : Type 0} → Gate A → List (List ℕ) → Shelf → OutsideView → A → LeftView A → Option (BookView A) → End → Type 0
+IsCauseBy gate words files o admin l book Usage = IsUnasked words (length o.copiers)
+IsCauseBy gate words files o admin l book (Refused line) = IsLiveRefusal words files line.items × (l.drain ≡ None)
+IsCauseBy gate words files o admin l book FileFault = ((asked : LiveAsked) × (live_command words ≡ Some asked)) × HasRisen files.before files.now
+IsCauseBy gate words files o admin l book ReadFault = HasRisen o.console.reads l.outside.console.reads
+IsCauseBy gate words files o admin l book WriteFault = HasRisen o.console.writes l.outside.console.writes
+IsCauseBy gate words files o admin l book NotDrained = HasFailedBy gate admin l.admin book
+IsCauseBy gate words files o admin l book InputCut = IsCutSession words o.console.left
+IsCauseBy gate words files o admin l book ListenerFault = HasRisen o.net.faults l.outside.net.faults
+IsCauseBy gate words files o admin l book (GoalFailed line) = ⊥
+IsCauseBy gate words files o admin l book TraceRefused = ⊥
+IsCauseBy gate words files o admin l book _ = Unit {0}
+
+abbrev pub IsLiveCause : {A : Type 0} → Gate A → List (List ℕ) → Shelf → OutsideView → A → LeftView A → End → Type 0
+IsLiveCause gate words files o admin l end = IsCauseBy gate words files o admin l l.book end
 
 -- a call of the files, of the console, of the listener or of the admin failed
-abbrev pub HasLiveFailed : {A : Type 0} → Gate A → Shelf → Outside → Outside → A → Option A → Option (BookView A) → Type 0
-HasLiveFailed gate files old new admin back book =
-    HasRisen files.before files.now ⊎ HasRisen old.console.reads new.console.reads ⊎ HasRisen old.console.writes new.console.writes
-    ⊎ HasRisen old.net.faults new.net.faults ⊎ AdminFailed gate admin back book
+abbrev pub HasLiveFailed : {A : Type 0} → Gate A → Shelf → OutsideView → A → LeftView A → Type 0
+HasLiveFailed gate files o admin l =
+    HasRisen files.before files.now ⊎ HasRisen o.console.reads l.outside.console.reads ⊎ HasRisen o.console.writes l.outside.console.writes
+    ⊎ HasRisen o.net.faults l.outside.net.faults ⊎ AdminFailed gate admin l
 
 -- without links the requests are the console's, and have to be whole
 abbrev pub IsServed : Option ServingAsked → Option (List ℕ) → Type 0
@@ -66,7 +72,7 @@ IsServed None left = HasWholeInput left
 IsServed (Some serving) left = Unit {0}
 
 -- the words are a command with threads, the copiers suffice, the file has a meaning, and the input is what the command needs
-pub record IsLiveGiven (words : List (List ℕ)) (files : Shelf) (o : Outside) : Type 0 where
+pub record IsLiveGiven (words : List (List ℕ)) (files : Shelf) (o : OutsideView) : Type 0 where
   pub asked : LiveAsked
   pub means : live_command words ≡ Some asked
   pub enough : copiers_before asked.crew < length o.copiers

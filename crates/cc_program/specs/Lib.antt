@@ -1,3 +1,4 @@
+pub mod Outside
 pub mod Lives
 pub mod Complete
 pub mod Entry

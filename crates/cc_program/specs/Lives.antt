@@ -1,27 +1,26 @@
 -- What `session` does beside movers and planners, and what `serve` does: requests of the console, or of links, are answered over a book that
 -- all share.
-use Rattle.std.specs.Prelude.{◌≡◌, ◌≤◌, ◌⊎◌, ◌+◌, ℕ, Bool, true, false, List, [], length, map, Option, Some, None, IfSome, option_and_then, option_map, string_bytes}
+use Rattle.std.specs.Prelude.{◌≡◌, ◌≤◌, ◌⊎◌, ◌+◌, ◌||◌, ℕ, Bool, true, false, List, [], length, map, Option, Some, None, IfSome, option_and_then, option_map, string_bytes}
 use Rattle.std.specs.List.{insert, list_any}
 use Rattle.cc_base.specs.Outside.{HasRisen, with_name}
-use Rattle.cc_base.specs.declared.outside.Sink as sink_trait
-use Rattle.cc_base.specs.declared.outside.Source as source_trait
-use Rattle.cluster_gate.specs.declared.copier.Copier as copier_trait
 use Rattle.cluster_json.specs.Faults.{Fault}
 use Rattle.cluster_json.specs.File.{Meaning}
 use Rattle.command_words.specs.Meaning as words
 use Rattle.control_core.specs.Books.{BookView, opened, state_of}
 use Rattle.core_laws.specs.Alone.{IsDone}
+use Rattle.core_laws.specs.Events.{AreListsShown}
 use Rattle.core_terms.specs.History.{AreLegal}
+use Rattle.core_terms.specs.Sound.{IsSound}
 use Rattle.exec_terms.specs.Machine.{lists_now}
+use Rattle.live_service.specs.Asked.{ServingAsked, serving_told}
 use Rattle.live_service.specs.Live.{IsLive}
-use Rattle.live_service.specs.Views.{FrontView, LinkView, NetView, ServedView, copies_told, link_told, net_of}
+use Rattle.live_service.specs.Views.{ServedView, TeamView}
 use Rattle.live_service.specs.declared.front.FrontEnd.{FrontEnd}
 use Rattle.live_service.specs.declared.front.FrontEnd.TheVariants as front
-use Rattle.live_service.specs.declared.links.Serving.{Serving}
-use Rattle.mover_rounds.specs.Made.{Copies}
+use Rattle.mover_workers.specs.declared.loops.LoopEnd.{LoopEnd}
+use Rattle.mover_workers.specs.declared.loops.LoopEnd.TheVariants as loop
 use Rattle.mover_rounds.specs.declared.drains.DrainEnd.{DrainEnd}
 use Rattle.mover_rounds.specs.declared.drains.DrainEnd.TheVariants as drain
-use Rattle.net_links.specs.declared.listener.Listener as listener_trait
 use Rattle.plan_terms.specs.Cluster.{Lists}
 use Rattle.rest_session.specs.declared.session.LinkEnd.{LinkEnd}
 use Rattle.rest_session.specs.declared.session.LinkEnd.TheVariants as link
@@ -29,15 +28,10 @@ use Rattle.quiet_commands.specs.Ends.{refusal_line}
 use Rattle.quiet_commands.specs.Input.{IsRefused, Means}
 use Rattle.quiet_commands.specs.Sessions.{drained_end, ended_by}
 use Rattle.quiet_commands.specs.declared.ends.End.{End}
+use Rattle.cc_program.specs.Outside.{LeftView, OutsideView}
 use Rattle.cc_program.specs.declared.lives.Crew.{Crew}
-use Rattle.cc_program.specs.declared.lives.Outside as lives
 use Rattle.cc_program.specs.declared.lives.LiveRequest.{LiveRequest}
 use Rattle.quiet_commands.specs.declared.ends.End.TheVariants.{FileFault, ListenerFault, Memory, NotDrained, Refused, Usage}
-
--- so many links, accepted at this address
-pub record ServingAsked : Type 0 where
-  pub address : List ℕ
-  pub links : ℕ
 
 -- so many movers and planners, and the links that are served. Without links the requests are those of the console
 pub record CrewAsked : Type 0 where
@@ -63,18 +57,11 @@ abbrev pub live_command : List (List ℕ) → Option LiveAsked
 live_command given = option_and_then live_of (words.meaning given)
 
 -- the same as a value of the program
-abbrev pub serving_told : Option Serving → Option ServingAsked
-serving_told serving = option_map (λ s. record { address = string_bytes s.address; links = s.links }) serving
-
 abbrev pub crew_told : Crew → CrewAsked
 crew_told crew = record { movers = crew.workers.movers; planners = crew.workers.planners; serving = serving_told crew.serving }
 
 abbrev pub live_told : LiveRequest → LiveAsked
 live_told request = record { file = string_bytes request.file; crew = crew_told request.crew }
-
--- a number of links, or none for the console
-abbrev pub links_asked : CrewAsked → Option ℕ
-links_asked crew = option_map (λ s. s.links) crew.serving
 
 -- the copiers before that of the console and of the drain: those of the movers, and then those of the links
 abbrev pub links_in : Option ServingAsked → ℕ
@@ -83,23 +70,6 @@ links_in (Some s) = s.links
 
 abbrev pub copiers_before : CrewAsked → ℕ
 copiers_before crew = crew.movers + links_in crew.serving
-
--- what is told of the outside: of the copiers, of the console, and of the listener
-pub record Outside : Type 0 where
-  pub copiers : List Copies
-  pub console : LinkView
-  pub net : NetView
-
-abbrev pub outside_of : {K L N : Type 0} → (K → Copies) → (L → LinkView) → (N → NetView) → List K → L → N → Outside
-outside_of copies link net copiers console listener = record { copiers = map copies copiers; console = link console; net = net listener }
-
--- the same by what the traits tell
-abbrev pub outside_told : {K L N C : Type 0} → copier_trait.Ghosts K → source_trait.Ghosts L → sink_trait.Ghosts L → listener_trait.Ghosts N C → lives.Outside K L N → Outside
-outside_told k r w n o = outside_of (copies_told k) (link_told r w) (net_of n.faults n.accepted) o.copiers.items o.console o.listener
-
--- the console and the listener, with this copier
-abbrev pub with_copier : Copies → Outside → FrontView
-with_copier copier o = record { copier = copier; console = o.console; net = o.net }
 
 -- what is told of an admin: how many of its calls have failed, and its lists
 pub record Gate (A : Type 0) : Type 0 where
@@ -117,51 +87,91 @@ wanted _ = false
 abbrev pub is_want : ServedView → Bool
 is_want s = wanted s.end
 
--- how a run ends: as the console's requests did; or by the listener's fault, by a link's want of memory, or as the drain did
+-- nor with a loop
+abbrev pub is_loop_want : LoopEnd → Bool
+is_loop_want loop.Memory = true
+is_loop_want _ = false
+
+-- there was none for a link, a mover or a planner
+abbrev pub any_want : {A : Type 0} → LeftView A → Bool
+any_want l = list_any is_want l.links || (list_any is_loop_want l.movers || list_any is_loop_want l.planners)
+
+-- how a drain ended, or what stands before it: want of memory
+abbrev pub or_want : Bool → DrainEnd → DrainEnd
+or_want true d = drain.Memory
+or_want false d = d
+
+-- how a run ends: as the console's requests did; or by the listener's fault, by want of memory of a link or a loop, or as the drain did
 abbrev pub ended_live : FrontEnd → Bool → DrainEnd → End
-ended_live (front.Console e) want d = ended_by e d
-ended_live front.Accepted true d = Memory
-ended_live front.Accepted false d = drained_end d
+ended_live (front.Console e) want d = ended_by e (or_want want d)
+ended_live front.Accepted want d = drained_end (or_want want d)
 ended_live front.ListenerFault want d = ListenerFault
 
--- a whole run over the cluster that a file means, with the movers, planners and links that were asked for: a legal history, and the
--- admin's lists, where they are told, are those of its state
-pub record IsLiveOf {A : Type 0} (admin : Gate A) (m : Meaning) (crew : CrewAsked) (old new : Outside) (links : List ServedView) (c : BookView A) (e : FrontEnd) (d : DrainEnd) : Type 0 where
+-- a team of this outside: the copier of the console and of the drain stands behind those of the movers and of the links
+pub record IsTeamOf (crew : CrewAsked) (o : OutsideView) (t : TeamView) : Type 0 where
+  pub copiers : o.copiers ≡ insert t.front.service.copiers (copiers_before crew) t.front.copier
+  pub console : o.console ≡ t.front.console
+  pub net : o.net ≡ t.front.service.net
+
+-- what was left is what the team brought back
+pub record IsLeftOf {A : Type 0} (crew : CrewAsked) (l : LeftView A) (t : TeamView) : Type 0 where
+  pub team : IsTeamOf crew l.outside t
+  pub links : l.links ≡ t.front.service.served
+  pub movers : l.movers ≡ t.movers
+  pub planners : l.planners ≡ t.planners
+
+-- a whole run over the cluster that a file means, with the movers, planners and links that were asked for: a legal history, whose state is
+-- sound and shows each list as the old one, the new one or, in flight, both; and the admin's lists, where they are told, are those of it
+pub record IsLiveOf {A : Type 0} (admin : Gate A) (m : Meaning) (crew : CrewAsked) (o : OutsideView) (l : LeftView A) (c : BookView A) (e : FrontEnd) (d : DrainEnd) : Type 0 where
   pub b : BookView A
   pub opening : b ≡ opened m b.admin
-  pub workers_old : List Copies
-  pub workers_new : List Copies
-  pub before : Copies
-  pub after : Copies
-  pub old_are : old.copiers ≡ insert workers_old (copiers_before crew) before
-  pub new_are : new.copiers ≡ insert workers_new (copiers_before crew) after
-  pub live : IsLive admin.faults (links_asked crew) b c workers_old workers_new crew.movers crew.planners (with_copier before old) (with_copier after new) links e d
+  pub given : TeamView
+  pub given_is : IsTeamOf crew o given
+  pub back : TeamView
+  pub back_is : IsLeftOf crew l back
+  pub live : IsLive admin.faults crew.serving b c given back e d crew.movers crew.planners
   pub legal : AreLegal c.journal
   pub lists : IfSome (admin.told c.admin) (λ lists. lists ≡ lists_now (state_of c).desk.exec)
+  pub sound : IsSound m (state_of c).desk
+  pub shown : AreListsShown (state_of c).desk.exec
   pub drained : d ≡ drain.Drained → IsDone (state_of c).desk
   pub late : (number : ℕ) → d ≡ drain.AdminFault number → (1 ≤ c.late) ⊎ (18446744073709551615 ≤ c.failures)
 
--- nothing was done outside, and no link was accepted
-abbrev pub IsIdle : Outside → Outside → List ServedView → Type 0
-IsIdle old new links = (new ≡ old) × (links ≡ [])
+-- nothing was done outside: no link was accepted, no loop began, and there was no drain
+pub record IsIdle {A : Type 0} (o : OutsideView) (l : LeftView A) : Type 0 where
+  pub outside : l.outside ≡ o
+  pub links : l.links ≡ []
+  pub movers : l.movers ≡ []
+  pub planners : l.planners ≡ []
+  pub drain : l.drain ≡ None
 
--- what was left where a book was begun: a whole run, by which it ended; or there was no memory to share the book, and nothing was done
-abbrev pub IsOver : {A : Type 0} → Gate A → Meaning → CrewAsked → Outside → Outside → List ServedView → BookView A → End → Type 0
-IsOver admin m crew old new links c end =
-    ((end ≡ Memory) × (c ≡ opened m c.admin) × IsIdle old new links)
-    ⊎ ((e : FrontEnd) × (d : DrainEnd) × (end ≡ ended_live e (list_any is_want links) d) × IsLiveOf admin m crew old new links c e d)
+-- there was no memory to share the book, and nothing was done: it is as it was opened, and the admin's lists are those of the file
+pub record IsUnshared {A : Type 0} (gate : Gate A) (m : Meaning) (o : OutsideView) (l : LeftView A) (c : BookView A) : Type 0 where
+  pub opening : c ≡ opened m c.admin
+  pub lists : IfSome (gate.told c.admin) (λ lists. lists ≡ lists_now (state_of c).desk.exec)
+  pub idle : IsIdle o l
 
--- why no book was begun, where the file was read: a call of the admin failed, or there was no memory. The admin comes back
+-- what was left where a book was begun: that, out of memory; or a whole run, by which it ended
+abbrev pub IsOver : {A : Type 0} → Gate A → Meaning → CrewAsked → OutsideView → LeftView A → BookView A → End → Type 0
+IsOver gate m crew o l c end =
+    ((end ≡ Memory) × IsUnshared gate m o l c)
+    ⊎ ((e : FrontEnd) × (d : DrainEnd) × (l.drain ≡ Some d) × (end ≡ ended_live e (any_want l) d) × IsLiveOf gate m crew o l c e d)
+
+-- why no book was begun, where the file was read: a call of the admin failed, or there was no memory. The admin comes back, with the lists
+-- that it had
 abbrev pub IsNotBegun : {A : Type 0} → Gate A → A → Option A → End → Type 0
 IsNotBegun gate admin None end = ⊥
-IsNotBegun gate admin (Some back) NotDrained = HasRisen (gate.faults admin) (gate.faults back)
-IsNotBegun gate admin (Some back) Memory = Unit {0}
+IsNotBegun gate admin (Some back) NotDrained = HasRisen (gate.faults admin) (gate.faults back) × (gate.told back ≡ gate.told admin)
+IsNotBegun gate admin (Some back) Memory = gate.told back ≡ gate.told admin
 IsNotBegun gate admin (Some back) _ = ⊥
 
 -- what was left of a file that was read
-abbrev pub IsLeft : {A : Type 0} → Gate A → Meaning → CrewAsked → Outside → Outside → List ServedView → A → Option A → Option (BookView A) → End → Type 0
-IsLeft gate m crew old new links admin back None end = IsNotBegun gate admin back end × IsIdle old new links
-IsLeft gate m crew old new links admin back (Some c) end = IsOver gate m crew old new links c end
+abbrev pub IsLeftFrom : {A : Type 0} → Gate A → Meaning → CrewAsked → OutsideView → A → LeftView A → Option (BookView A) → End → Type 0
+IsLeftFrom gate m crew o admin l None end = IsNotBegun gate admin l.admin end × IsIdle o l
+IsLeftFrom gate m crew o admin l (Some c) end = IsOver gate m crew o l c end
+
+abbrev pub IsLeft : {A : Type 0} → Gate A → Meaning → CrewAsked → OutsideView → A → LeftView A → End → Type 0
+IsLeft gate m crew o admin l end = IsLeftFrom gate m crew o admin l l.book end
 
 -- ---- by the words
 
@@ -223,7 +233,7 @@ IsUnread words copiers files Memory = Unit {0}
 IsUnread words copiers files _ = ⊥
 
 -- what a run left: no file was read, and the admin comes back; or what is left of the file that the words ask for
-abbrev pub Leaves : {A : Type 0} → Gate A → List (List ℕ) → Shelf → Outside → Outside → List ServedView → A → Option A → Option (BookView A) → End → Type 0
-Leaves gate words files old new links admin back book end =
-    (IsUnread words (length old.copiers) files end × (book ≡ None) × (back ≡ Some admin) × IsIdle old new links)
-    ⊎ IsLiveAnswer words files (λ asked m. IsLeft gate m asked.crew old new links admin back book end)
+abbrev pub Leaves : {A : Type 0} → Gate A → List (List ℕ) → Shelf → OutsideView → A → LeftView A → End → Type 0
+Leaves gate words files o admin l end =
+    (IsUnread words (length o.copiers) files end × (l.book ≡ None) × (l.admin ≡ Some admin) × IsIdle o l)
+    ⊎ IsLiveAnswer words files (λ asked m. IsLeft gate m asked.crew o admin l end)

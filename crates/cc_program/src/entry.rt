@@ -1,12 +1,16 @@
 // The whole program, once the outside was made.
-ghost use Rattle.std.specs.Prelude.{◌≡◌, IfErr, IfOk, map, string_bytes, vec_len};
+ghost use Rattle.std.specs.Prelude.{◌≡◌, IfErr, IfOk, Option, None, map, string_bytes, vec_len};
 ghost use Rattle.std.specs.Process.{exit_status};
 ghost use Rattle.std.specs.IoError.{error_kind};
-ghost use Rattle.quiet_commands.specs.Ends.{IsTold, line_of, status_of};
+ghost use Rattle.quiet_commands.specs.Ends.{IsTold, lines_of, status_of};
 ghost use Rattle.cc_program.specs.Entry.{AsWanted, IsWordless, RunsAlone, RunsLive};
+ghost use Rattle.cc_program.specs.Lives.{gate};
+ghost use Rattle.live_service.specs.Views.{link_of, net_of};
+ghost use Rattle.mover_rounds.specs.declared.drains.DrainEnd.{DrainEnd};
 ghost use Rattle.quiet_commands.specs.declared.ends.End.{End};
 
-use crate::lives::{Outside, run_live};
+use crate::lives::run_live;
+use crate::outside::Outside;
 use cc_base::{Files, Link, Sink};
 use cluster_gate::{Admin, Copier, MemoryCluster, MemoryCopier};
 use command_words::wants_live;
@@ -70,15 +74,16 @@ fn run_threads<
 ) -> ExitCode
 where
     N::Conn: Send + Drop,
-    ensures { (end : End) × (exit_status result ≡ status_of end)
-        × IsTold (line_of end) (O.written err.old) (O.written err.new) (O.faults err.old)
+    ensures { (end : End) × (drain : Option DrainEnd) × (exit_status result ≡ status_of end)
+        × IsTold (lines_of drain end) (O.written err.old) (O.written err.new) (O.faults err.old)
         (O.faults err.new)
-        × RunsLive ⟦<MemoryCluster as Admin>⟧ ⟦<MemoryCopier as Copier>⟧ F.Files L.Source L.Sink
-        N.Listener N.Conn.Source N.Conn.Sink (map string_bytes words.now) files.old files.new
-        console listener end }
+        × RunsLive (gate ⟦<MemoryCluster as Admin>⟧.faults ⟦<MemoryCluster as Admin>⟧.told) F.Files
+        (map string_bytes words.now) files.old files.new
+        (link_of L.left L.written L.Source.faults L.Sink.faults console)
+        (net_of N.faults N.accepted N.heard listener) drain end }
 {
     let Ok(copiers) = copiers(alloc) else {
-        return exit_code(conclude(err, &End::Memory));
+        return exit_code(conclude(err, &End::Memory, None));
     };
     let outside = Outside {
         copiers,
@@ -110,16 +115,17 @@ pub fn run_words<
 ) -> ExitCode
 where
     N::Conn: Send + Drop,
-    ensures { (end : End) × (exit_status result ≡ status_of end)
-        × IsTold (line_of end) (O.written err.old) (O.written err.new) (O.faults err.old)
+    ensures { (end : End) × (drain : Option DrainEnd) × (exit_status result ≡ status_of end)
+        × IsTold (lines_of drain end) (O.written err.old) (O.written err.new) (O.faults err.old)
         (O.faults err.new)
-        × IfErr words (λ e. IsWordless (error_kind e) end)
+        × IfErr words (λ e. IsWordless (error_kind e) end × (drain ≡ None))
         × IfOk words (λ given. AsWanted (map string_bytes given.items)
-        (RunsLive ⟦<MemoryCluster as Admin>⟧ ⟦<MemoryCopier as Copier>⟧ F.Files L.Source L.Sink
-        N.Listener N.Conn.Source N.Conn.Sink (map string_bytes given.items) files.old files.new
-        console listener end)
+        (RunsLive (gate ⟦<MemoryCluster as Admin>⟧.faults ⟦<MemoryCluster as Admin>⟧.told) F.Files
+        (map string_bytes given.items) files.old files.new
+        (link_of L.left L.written L.Source.faults L.Sink.faults console)
+        (net_of N.faults N.accepted N.heard listener) drain end)
         (RunsAlone F.Files L.Source L.Sink (map string_bytes given.items) files.old files.new
-        console end)) }
+        console drain end)) }
 {
     match words {
         Ok(words) => {
@@ -128,6 +134,6 @@ where
             }
             exit_code(run_quiet(rt, alloc, &words, files, &mut console, err))
         }
-        Err(e) => exit_code(conclude(err, &end_without_words(e.kind()))),
+        Err(e) => exit_code(conclude(err, &end_without_words(e.kind()), None)),
     }
 }

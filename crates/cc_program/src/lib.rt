@@ -4,7 +4,9 @@
 
 mod entry;
 mod lives;
+mod outside;
 
 pub use entry::run_words;
-pub use lives::{Ended, Left, Outside, run_live};
+pub use lives::run_live;
+pub use outside::{Ended, Left, Outside};
 pub use quiet_commands::{End, run_quiet};

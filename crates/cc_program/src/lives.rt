@@ -1,26 +1,30 @@
 // Runs with threads: a session beside movers and planners, and the service of links.
-ghost use Rattle.std.specs.Prelude.{◌≡◌, ◌≤◌, ◌<◌, ◌+◌, ◌⊎◌, ℕ, List, [], map, Some, None, string_bytes, vec_len, vec_capacity, IfOk, IfErr, IfSome, IsSome};
-ghost use Rattle.std.specs.List.{list_any};
+ghost use Rattle.std.specs.Prelude.{◌≡◌, ◌≤◌, ◌<◌, ◌+◌, ◌||◌, ◌⊎◌, ℕ, List, [], length, map, Some, None, string_bytes, IfOk, IfErr, IfSome, IsSome};
+ghost use Rattle.std.specs.List.{insert, list_any};
 ghost use Rattle.cluster_json.specs.Ranges.{IsFile};
 ghost use Rattle.cluster_json.specs.Views.{file_seen};
 ghost use Rattle.control_core.specs.Books.{opened};
 ghost use Rattle.cc_base.specs.Outside.{HasRisen};
 ghost use Rattle.cluster_json.specs.Faults.{Fault};
 ghost use Rattle.cc_program.specs.Complete.{AdminFailed, HasLiveFailed, IsCutSession, IsLiveCause, IsLiveGiven};
-ghost use Rattle.quiet_commands.specs.Ends.{IsTold, line_of, status_of};
+ghost use Rattle.quiet_commands.specs.Ends.{IsTold, lines_of, status_of};
 ghost use Rattle.quiet_commands.specs.Input.{IsRefused};
-ghost use Rattle.cc_program.specs.Lives.{IsLeft, IsLiveRefusal, IsOver, IsUnasked, Leaves, LiveAsked, copiers_before, crew_told, ended_live, gate, live_command, live_told, outside_told, shelf, wanted};
+ghost use Rattle.cc_program.specs.Lives.{IsLeft, IsLiveRefusal, IsOver, IsTeamOf, IsUnasked, Leaves, LiveAsked, copiers_before, crew_told, ended_live, gate, is_loop_want, live_command, live_told, or_want, shelf, wanted};
+ghost use Rattle.cc_program.specs.Outside.{OutsideView};
 ghost use Rattle.quiet_commands.specs.declared.ends.End.{End};
-ghost use Rattle.live_service.specs.Asked.{links_of};
-ghost use Rattle.live_service.specs.Views.{served_told};
+ghost use Rattle.live_service.specs.Asked.{IsReady, links_of};
 
+use crate::outside::{Ended, Left, Outside};
 use cc_base::{Files, Link, Sink};
 use cluster_gate::{Admin, Copier, InstallFault};
 use cluster_json::ClusterFile;
 use command_words::{Command, WordsFault, Workers, read_words};
 use control_core::Book;
-use live_service::{Front, FrontEnd, Served, Service, Serving, run_live_service};
+use live_service::{
+    Front, FrontEnd, Live, Of, Served, Service, Serving, Team, Unshared, run_live_service,
+};
 use mover_rounds::DrainEnd;
+use mover_workers::LoopEnd;
 use net_links::Listener;
 use quiet_commands::{End, LoadFault, Request, conclude, drained_end, ended_by, load};
 use rest_session::{LinkEnd, SessionEnd};
@@ -43,58 +47,33 @@ pub struct LiveRequest {
     pub crew: Crew,
 }
 
-/// What a run works with outside its book: copiers, a console, and a listener.
-#[derive(Drop)]
-pub struct Outside<K, L, N> {
-    /// Those of the movers, then those of the links, and then that of the console and of the drain.
-    pub copiers: Vec<K>,
-    pub console: L,
-    pub listener: N,
-}
-
-/// What a run with threads leaves.
-#[derive(Drop)]
-pub struct Left<A: Admin, K, L, N: Listener>
-where
-    N::Conn: Drop,
-{
-    /// None where none was begun.
-    pub book: Option<Book<A>>,
-    /// The admin, where no book was begun.
-    pub admin: Option<A>,
-    pub outside: Outside<K, L, N>,
-    /// The links that were accepted, in their order.
-    pub links: Vec<Served<N::Conn>>,
-}
-
-/// How a run with threads ended.
-#[derive(Drop)]
-pub struct Ended<A: Admin, K, L, N: Listener>
-where
-    N::Conn: Drop,
-{
-    pub status: u8,
-    pub left: Left<A, K, L, N>,
-}
-
 // What is left of a run that ended before a book was begun.
-fn unbegun<A: Admin, K, L, N: Listener>(
+fn unbegun<A: Admin, K: Copier, L: Link, N: Listener>(
     alloc: Global,
     admin: A,
     outside: Outside<K, L, N>,
 ) -> Left<A, K, L, N>
 where
     N::Conn: Drop,
-    ensures book { result.book ≡ None }
-    ensures admin { result.admin ≡ Some admin }
-    ensures outside { result.outside ≡ outside }
-    ensures links { result.links.items ≡ [] }
+    ensures { result
+        ≡ record {
+          book = None;
+          admin = Some admin;
+          drain = None;
+          outside = outside;
+          links = [];
+          movers = [];
+          planners = [];
+        } }
 {
     Left {
         book: None,
         admin: Some(admin),
+        drain: None,
         outside,
         links: Vec::new(alloc),
+        movers: Vec::new(alloc),
+        planners: Vec::new(alloc),
     }
 }
 
@@ -165,92 +144,138 @@ fn is_want(end: LinkEnd) -> bool
     matches!(end, LinkEnd::Memory)
 }
 
-// Whether there was none to go on with one of the links.
-fn any_want<C>(links: &[Served<C>]) -> bool
+// Nor with a loop.
+fn is_loop_want(end: LoopEnd) -> bool
+    ensures { result ≡ is_loop_want end }
+{
+    matches!(end, LoopEnd::Memory)
+}
+
+// Whether there was none for one of these links.
+fn any_link_want<C>(links: &[Served<C>]) -> bool
     ensures { result ≡ list_any (λ served. wanted served.end) links.now }
 {
     links.iter().any(|served| is_want(served.end))
 }
 
-// How a run ends whose front and drain ended so, where there was memory to go on with each link, or
-// wasn't.
+// Nor for one of these loops.
+fn any_loop_want(loops: &[LoopEnd]) -> bool
+    ensures { result ≡ list_any is_loop_want loops.now }
+{
+    loops.iter().any(|end| is_loop_want(*end))
+}
+
+// Whether there was none for one of all these.
+fn any_want<C>(links: &[Served<C>], movers: &[LoopEnd], planners: &[LoopEnd]) -> bool
+    ensures { result
+        ≡ (list_any (λ served. wanted served.end) links.now
+        || (list_any is_loop_want movers.now || list_any is_loop_want planners.now)) }
+{
+    any_link_want(links) || any_loop_want(movers) || any_loop_want(planners)
+}
+
+// How the drain ended, unless there was no memory before.
+fn or_want(want: bool, drain: DrainEnd) -> DrainEnd
+    ensures { result ≡ or_want want drain }
+{
+    if want { DrainEnd::Memory } else { drain }
+}
+
+// How a run ends whose front and drain ended so, where there was memory to go on with each link and
+// loop, or wasn't.
 fn ended_live(front: FrontEnd, want: bool, drain: DrainEnd) -> End
     ensures { result ≡ ended_live front want drain }
 {
+    let drain = or_want(want, drain);
     match front {
         FrontEnd::Console(link) => ended_by(SessionEnd { link, drain }),
-        FrontEnd::Accepted if want => End::Memory,
         FrontEnd::Accepted => drained_end(drain),
         FrontEnd::ListenerFault => End::ListenerFault,
     }
 }
 
-// Runs a service over a book that was just begun. The copier behind those of the movers and of the
-// links is that of the console.
-fn live<
-    A: Admin + Send,
-    K: Copier + Send + Drop,
-    L: Link + Drop,
-    N: Listener + Send + Drop,
-    R: Threads + Wait + Sync,
->(
-    rt: &R,
+// The outside as a team. The copier behind those of the movers and of the links is that of the
+// console. Out of memory for what the team brings back, the outside comes back.
+fn team_of<A: Admin + Send, K: Copier + Send + Drop, L: Link + Drop, N: Listener + Send + Drop>(
     alloc: Global,
-    book: Book<A>,
     outside: Outside<K, L, N>,
-    crew: Crew,
-    room: Vec<Served<N::Conn>>,
-) -> (End, Left<A, K, L, N>)
+    crew: &Crew,
+) -> Result<Team<Of<A, K, L, N>>, Outside<K, L, N>>
 where
     N::Conn: Send + Drop,
-    // The book is as it was opened.
-    requires opened { book ≡ opened book.file book.admin }
-    // A copier for each mover and link, a part for each thread, and room for the links.
-    requires enough { crew.workers.movers + links_of crew.serving < vec_len outside.copiers }
-    requires few { crew.workers.planners + (crew.workers.movers + links_of crew.serving) < 1048576 }
-    requires none { room.items ≡ [] }
-    requires room { links_of crew.serving ≤ vec_capacity room }
-    // The book comes back, behind what the session did.
-    ensures begun { IsSome result.1.book }
-    ensures over { IfSome result.1.book
-        (λ c. IsOver (gate A.faults A.told) book.file (crew_told crew)
-        (outside_told K.Copier L.Source L.Sink N.Listener outside)
-        (outside_told K.Copier L.Source L.Sink N.Listener result.1.outside)
-        (served_told N.Conn.Source N.Conn.Sink result.1.links.items) c result.0) }
+    requires enough { copiers_before (crew_told crew.now) < length outside.copiers }
+    requires few { crew.now.workers.planners + copiers_before (crew_told crew.now) < 1048576 }
+    ensures team { IfOk result (IsTeamOf (crew_told crew.now) outside) }
+    ensures ready { IfOk result
+        (λ t. IsReady t 1048576 crew.now.workers.movers crew.now.workers.planners
+        (links_of crew.now.serving)) }
+    ensures room { IfOk result
+        (λ t. length t.front.service.copiers < t.front.service.room) }
+    ensures handed_back { IfErr result (λ o. o ≡ outside) }
 {
+    let Ok(served) = Vec::with_capacity(alloc, links_in(&crew.serving) as usize) else {
+        return Err(outside);
+    };
+    let Ok(movers) = Vec::with_capacity(alloc, crew.workers.movers as usize) else {
+        return Err(outside);
+    };
+    let Ok(planners) = Vec::with_capacity(alloc, crew.workers.planners as usize) else {
+        return Err(outside);
+    };
     let Outside {
         mut copiers,
         console,
         listener,
     } = outside;
-    let at = copiers_before(&crew);
-    let copier = copiers.remove(at);
-    let front = Front {
-        copier,
-        console,
-        service: Service {
-            listener,
-            copiers,
-            served: room,
+    let copier = copiers.remove(copiers_before(crew));
+    let service = Service {
+        listener,
+        copiers,
+        served,
+    };
+    Ok(Team {
+        front: Front {
+            copier,
+            console,
+            service,
         },
-    };
-    let Crew { workers, serving } = crew;
-    let (book, front, ended) = match run_live_service(
-        rt,
-        alloc,
-        book,
-        workers.movers,
-        workers.planners,
+        movers,
+        planners,
+    })
+}
+
+// What a team brought back. The copier of the console goes back to its place.
+fn left_of<A: Admin + Send, K: Copier + Send + Drop, L: Link + Drop, N: Listener + Send + Drop>(
+    at: usize,
+    book: Option<Book<A>>,
+    admin: Option<A>,
+    drain: Option<DrainEnd>,
+    team: Team<Of<A, K, L, N>>,
+) -> Left<A, K, L, N>
+where
+    N::Conn: Send + Drop,
+    requires at { at ≤ length team.front.service.copiers }
+    requires room { length team.front.service.copiers < team.front.service.room }
+    ensures { result
+        ≡ record {
+          book = book;
+          admin = admin;
+          drain = drain;
+          outside = record {
+            copiers = insert team.front.service.copiers at team.front.copier;
+            console = team.front.console;
+            net = team.front.service.net;
+          };
+          links = team.front.service.served;
+          movers = team.movers;
+          planners = team.planners;
+        } }
+{
+    let Team {
         front,
-        serving,
-    ) {
-        Ok(live) => {
-            let want = any_want(&live.front.service.served);
-            let ended = ended_live(live.end, want, live.drain);
-            (live.book, live.front, ended)
-        }
-        Err(unshared) => (unshared.book, unshared.front, End::Memory),
-    };
+        movers,
+        planners,
+    } = team;
     let Front {
         copier,
         console,
@@ -264,21 +289,78 @@ where
     let Ok(()) = copiers.insert(at, copier) else {
         unreachable!()
     };
-    let left = Left {
-        book: Some(book),
-        admin: None,
+    Left {
+        book,
+        admin,
+        drain,
         outside: Outside {
             copiers,
             console,
             listener,
         },
         links: served,
-    };
-    (ended, left)
+        movers,
+        planners,
+    }
 }
 
-// Begins a book of a file that was loaded, and runs a service over it. Room for the links is taken
-// first.
+// Runs a service over a book that was just begun.
+fn live<
+    A: Admin + Send,
+    K: Copier + Send + Drop,
+    L: Link + Drop,
+    N: Listener + Send + Drop,
+    R: Threads + Wait + Sync,
+>(
+    rt: &R,
+    alloc: Global,
+    book: Book<A>,
+    team: Team<Of<A, K, L, N>>,
+    crew: Crew,
+) -> (End, Left<A, K, L, N>)
+where
+    N::Conn: Send + Drop,
+    // The book is as it was opened.
+    requires opened { book ≡ opened book.file book.admin }
+    // A copier and a part for each mover, planner and link, and room for what they bring back.
+    requires ready { IsReady team 1048576 crew.workers.movers crew.workers.planners
+        (links_of crew.serving) }
+    requires room { length team.front.service.copiers < team.front.service.room }
+    // The book comes back, behind what the session did.
+    ensures begun { IsSome result.1.book }
+    ensures over { (outside : OutsideView) → IsTeamOf (crew_told crew) outside team
+        → IfSome result.1.book
+        (λ c. IsOver (gate A.faults A.told) book.file (crew_told crew) outside result.1 c result.0) }
+{
+    let at = copiers_before(&crew);
+    let Crew { workers, serving } = crew;
+    let _lists = book.journal();
+    match run_live_service(
+        rt,
+        alloc,
+        book,
+        team,
+        workers.movers,
+        workers.planners,
+        serving,
+    ) {
+        Ok(live) => {
+            let Live {
+                book,
+                team,
+                end,
+                drain,
+            } = live;
+            let left = left_of(at, Some(book), None, Some(drain), team);
+            let want = any_want(&left.links, &left.movers, &left.planners);
+            (ended_live(end, want, drain), left)
+        }
+        Err(Unshared { book, team }) => (End::Memory, left_of(at, Some(book), None, None, team)),
+    }
+}
+
+// Begins a book of a file that was loaded, and runs a service over it. Room for what comes back is
+// taken first.
 fn begin<
     A: Admin + Send,
     K: Copier + Send + Drop,
@@ -296,21 +378,25 @@ fn begin<
 where
     N::Conn: Send + Drop,
     requires file { IsFile file }
-    requires enough { crew.workers.movers + links_of crew.serving < vec_len outside.copiers }
-    requires few { crew.workers.planners + (crew.workers.movers + links_of crew.serving) < 1048576 }
-    ensures left { IsLeft (gate A.faults A.told) (file_seen file) (crew_told crew)
-        (outside_told K.Copier L.Source L.Sink N.Listener outside)
-        (outside_told K.Copier L.Source L.Sink N.Listener result.1.outside)
-        (served_told N.Conn.Source N.Conn.Sink result.1.links.items)
-        admin result.1.admin result.1.book result.0 }
+    requires enough { copiers_before (crew_told crew) < length outside.copiers }
+    requires few { crew.workers.planners + copiers_before (crew_told crew) < 1048576 }
+    ensures left { IsLeft (gate A.faults A.told) (file_seen file) (crew_told crew) outside admin
+        result.1 result.0 }
 {
-    let Ok(room) = Vec::with_capacity(alloc, links_in(&crew.serving) as usize) else {
-        return (End::Memory, unbegun(alloc, admin, outside));
+    let team = match team_of(alloc, outside, &crew) {
+        Ok(team) => team,
+        Err(outside) => return (End::Memory, unbegun(alloc, admin, outside)),
     };
     match Book::begin(alloc, file, admin) {
-        Ok(book) => live(rt, alloc, book, outside, crew, room),
-        Err((InstallFault::Failed, admin)) => (End::NotDrained, unbegun(alloc, admin, outside)),
-        Err((InstallFault::Memory, admin)) => (End::Memory, unbegun(alloc, admin, outside)),
+        Ok(book) => live(rt, alloc, book, team, crew),
+        Err((InstallFault::Failed, admin)) => {
+            let left = left_of(copiers_before(&crew), None, Some(admin), None, team);
+            (End::NotDrained, left)
+        }
+        Err((InstallFault::Memory, admin)) => {
+            let left = left_of(copiers_before(&crew), None, Some(admin), None, team);
+            (End::Memory, left)
+        }
     }
 }
 
@@ -334,11 +420,8 @@ where
     ensures files { F.faults files.old ≤ F.faults files.new }
     ensures leaves { Leaves (gate A.faults A.told) (map string_bytes words.now)
         (shelf F.contents F.faults F.log files.old files.new)
-        (outside_told K.Copier L.Source L.Sink N.Listener outside)
-        (outside_told K.Copier L.Source L.Sink N.Listener result.1.outside)
-        (served_told N.Conn.Source N.Conn.Sink result.1.links.items)
-        admin result.1.admin result.1.book result.0 }
-    ensures unasked { IsUnasked (map string_bytes words.now) (vec_len outside.copiers)
+        outside admin result.1 result.0 }
+    ensures unasked { IsUnasked (map string_bytes words.now) (length outside.copiers)
         → (result.0 ≡ End.Usage) ⊎ (result.0 ≡ End.Memory) }
 {
     let LiveRequest { file, crew } = match asked_live(alloc, words, outside.copiers.len()) {
@@ -375,17 +458,12 @@ where
     ensures files { F.faults files.old ≤ F.faults files.new }
     ensures leaves { Leaves (gate A.faults A.told) (map string_bytes words.now)
         (shelf F.contents F.faults F.log files.old files.new)
-        (outside_told K.Copier L.Source L.Sink N.Listener outside)
-        (outside_told K.Copier L.Source L.Sink N.Listener result.1.outside)
-        (served_told N.Conn.Source N.Conn.Sink result.1.links.items)
-        admin result.1.admin result.1.book result.0 }
-    ensures unasked { IsUnasked (map string_bytes words.now) (vec_len outside.copiers)
+        outside admin result.1 result.0 }
+    ensures unasked { IsUnasked (map string_bytes words.now) (length outside.copiers)
         → (result.0 ≡ End.Usage) ⊎ (result.0 ≡ End.Memory) }
     ensures cause { IsLiveCause (gate A.faults A.told) (map string_bytes words.now)
         (shelf F.contents F.faults F.log files.old files.new)
-        (outside_told K.Copier L.Source L.Sink N.Listener outside)
-        (outside_told K.Copier L.Source L.Sink N.Listener result.1.outside)
-        admin result.1.admin result.1.book result.0 }
+        outside admin result.1 result.0 }
 {
     run(rt, alloc, words, files, admin, outside)
 }
@@ -397,7 +475,8 @@ where
 /// the output, 8 where the admin's fault left work unfinished, 9 out of memory, 10 for an input
 /// that ended inside a request or couldn't be framed, and 12 for a fault of the listener. `serve`
 /// neither reads nor writes the console, and a link that ends by a fault changes no status. One
-/// line on any end but 0 goes to `err`.
+/// line on any end but 0 goes to `err`, and `not drained` behind it where that is another one and
+/// the drain failed.
 pub fn run_live<
     F: Files,
     O: Sink,
@@ -417,25 +496,22 @@ pub fn run_live<
 ) -> Ended<A, K, L, N>
 where
     N::Conn: Send + Drop,
-    // How it ended, with what stands behind that end, and its line on the error stream, or a prefix
-    // of the line where that fails.
+    // How it ended, with what stands behind that end, and its line on the error stream, with one
+    // more where the drain failed and it doesn't say so; or a prefix of that where the stream fails.
     ensures ended { (end : End) × (result.status ≡ status_of end)
         × Leaves (gate A.faults A.told) (map string_bytes words.now)
         (shelf F.contents F.faults F.log files.old files.new)
-        (outside_told K.Copier L.Source L.Sink N.Listener outside)
-        (outside_told K.Copier L.Source L.Sink N.Listener result.left.outside)
-        (served_told N.Conn.Source N.Conn.Sink result.left.links.items) admin result.left.admin
-        result.left.book end
-        × IsTold (line_of end) (O.written err.old) (O.written err.new) (O.faults err.old)
-        (O.faults err.new) }
+        outside admin result.left end
+        × IsTold (lines_of result.left.drain end) (O.written err.old) (O.written err.new)
+        (O.faults err.old) (O.faults err.new) }
     ensures statuses { (result.status ≡ 0) ⊎ (result.status ≡ 2) ⊎ (result.status ≡ 3)
         ⊎ (result.status ≡ 5) ⊎ (result.status ≡ 6) ⊎ (result.status ≡ 7) ⊎ (result.status ≡ 8)
         ⊎ (result.status ≡ 9) ⊎ (result.status ≡ 10) ⊎ (result.status ≡ 12) }
     // 2: only where the words are no such command, or ask for too many copiers, and there unless
     // memory runs out.
     ensures usage { result.status ≡ 2
-        → IsUnasked (map string_bytes words.now) (vec_len outside.copiers) }
-    ensures refuses_words { IsUnasked (map string_bytes words.now) (vec_len outside.copiers)
+        → IsUnasked (map string_bytes words.now) (length outside.copiers) }
+    ensures refuses_words { IsUnasked (map string_bytes words.now) (length outside.copiers)
         → (result.status ≡ 2) ⊎ (result.status ≡ 9) }
     // 3: only where the file has a fault, whose line is told, and there unless the words, the files
     // or memory stand in the way.
@@ -453,32 +529,28 @@ where
     // listener rose.
     ensures files { result.status ≡ 5 → HasRisen (F.faults files.old) (F.faults files.new) }
     ensures input { result.status ≡ 6
-        → HasRisen (L.Source.faults outside.console) (L.Source.faults result.left.outside.console) }
+        → HasRisen outside.console.reads result.left.outside.console.reads }
     ensures output { result.status ≡ 7
-        → HasRisen (L.Sink.faults outside.console) (L.Sink.faults result.left.outside.console) }
-    ensures listener { result.status ≡ 12 → HasRisen (N.faults outside.listener)
-        (N.faults result.left.outside.listener) }
+        → HasRisen outside.console.writes result.left.outside.console.writes }
+    ensures listener { result.status ≡ 12 → HasRisen outside.net.faults result.left.outside.net.faults }
     // 8: only where the admin's count rose, while the book was begun or behind its settling.
-    ensures admin { result.status ≡ 8 → AdminFailed (gate A.faults A.told)
-        admin result.left.admin result.left.book }
+    ensures admin { result.status ≡ 8 → AdminFailed (gate A.faults A.told) admin
+        result.left }
     // 10: only of a session whose input ended inside a request, or has one that can't be framed.
     ensures cut { result.status ≡ 10
-        → IsCutSession (map string_bytes words.now) (L.left outside.console) }
+        → IsCutSession (map string_bytes words.now) outside.console.left }
     // 0 or 9: wherever all that was given is as it should be, and no call outside failed.
     ensures complete { IsLiveGiven (map string_bytes words.now)
-        (shelf F.contents F.faults F.log files.old files.new)
-        (outside_told K.Copier L.Source L.Sink N.Listener outside)
+        (shelf F.contents F.faults F.log files.old files.new) outside
         → (result.status ≡ 0) ⊎ (result.status ≡ 9)
         ⊎ HasLiveFailed (gate A.faults A.told) (shelf F.contents F.faults F.log files.old files.new)
-        (outside_told K.Copier L.Source L.Sink N.Listener outside)
-        (outside_told K.Copier L.Source L.Sink N.Listener result.left.outside)
-        admin result.left.admin result.left.book }
+        outside admin result.left }
     ensures files_later { F.faults files.old ≤ F.faults files.new }
     ensures err_later { O.faults err.old ≤ O.faults err.new }
 {
     let (end, left) = run_for_cause(rt, alloc, words, files, admin, outside);
     Ended {
-        status: conclude(err, &end),
+        status: conclude(err, &end, left.drain),
         left,
     }
 }

@@ -2,4 +2,5 @@ pub mod Copies
 pub mod Failing
 pub mod Held
 pub mod Lists
+pub mod Calls
 pub mod Receipts

@@ -1,6 +1,8 @@
 // The trait of the cluster's lists.
 ghost use Rattle.std.specs.Prelude.{◌≡◌, ◌<◌, ◌≤◌, ℕ, List, length, Option, OnOk, OnErr, IsErrOf};
 ghost use Rattle.cc_base.specs.Outside.{HasCause, HasRisen};
+ghost use Rattle.cluster_gate.specs.Calls.{AdminCall, with_call};
+ghost use Rattle.cluster_gate.specs.Calls as call;
 ghost use Rattle.cluster_gate.specs.Lists.{installed, with_list};
 
 use cc_base::Failed;
@@ -52,6 +54,9 @@ pub trait Admin {
     /// The lists, where they are told.
     ghost told: { Self → Option (List (List ℕ)) };
 
+    /// The calls that went through, in order, where they are told.
+    ghost calls: { Self → Option (List AdminCall) };
+
     /// Sets the lists of all partitions.
     ///
     /// # Errors
@@ -62,10 +67,15 @@ pub trait Admin {
         ensures later { faults self.old ≤ faults self.new }
         ensures cause { IsErrOf result InstallFault.Failed
             → HasRisen (faults self.old) (faults self.new) }
+        ensures counted { (IsErrOf result InstallFault.Failed → ⊥)
+            → faults self.new ≡ faults self.old }
         ensures parts { OnOk result (parts self.new ≡ length lists.now) }
         ensures lists { OnOk result (told self.new ≡ installed (told self.old) lists.now) }
+        ensures called { OnOk result (calls self.new
+            ≡ with_call (calls self.old) (call.installed lists.now)) }
         ensures failed { OnErr result
-            ((parts self.new ≡ parts self.old) × (told self.new ≡ told self.old)) };
+            ((parts self.new ≡ parts self.old) × (told self.new ≡ told self.old)
+            × (calls self.new ≡ calls self.old)) };
 
     /// Sets the list of one partition to the union of its old and its new list, with which the
     /// copies begin. Takes no memory.
@@ -77,9 +87,13 @@ pub trait Admin {
         requires installed { part < parts self.old }
         requires few { length union.now ≤ 16 }
         ensures cause { HasCause (faults self.old) (faults self.new) result }
+        ensures counted { OnOk result (faults self.new ≡ faults self.old) }
         ensures parts { parts self.new ≡ parts self.old }
         ensures lists { OnOk result (told self.new ≡ with_list (told self.old) part union.now) }
-        ensures failed { OnErr result (told self.new ≡ told self.old) };
+        ensures called { OnOk result (calls self.new
+            ≡ with_call (calls self.old) (call.begun part union.now)) }
+        ensures failed { OnErr result
+            ((told self.new ≡ told self.old) × (calls self.new ≡ calls self.old)) };
 
     /// Sets the list of one partition to its new list, with which the reassignment is done. Takes
     /// no memory.
@@ -91,9 +105,13 @@ pub trait Admin {
         requires installed { part < parts self.old }
         requires few { length after.now ≤ 16 }
         ensures cause { HasCause (faults self.old) (faults self.new) result }
+        ensures counted { OnOk result (faults self.new ≡ faults self.old) }
         ensures parts { parts self.new ≡ parts self.old }
         ensures lists { OnOk result (told self.new ≡ with_list (told self.old) part after.now) }
-        ensures failed { OnErr result (told self.new ≡ told self.old) };
+        ensures called { OnOk result (calls self.new
+            ≡ with_call (calls self.old) (call.committed part after.now)) }
+        ensures failed { OnErr result
+            ((told self.new ≡ told self.old) × (calls self.new ≡ calls self.old)) };
 
     /// Sets the list of one partition back to its old list, with which the reassignment is given
     /// up. Takes no memory.
@@ -105,7 +123,11 @@ pub trait Admin {
         requires installed { part < parts self.old }
         requires few { length before.now ≤ 16 }
         ensures cause { HasCause (faults self.old) (faults self.new) result }
+        ensures counted { OnOk result (faults self.new ≡ faults self.old) }
         ensures parts { parts self.new ≡ parts self.old }
         ensures lists { OnOk result (told self.new ≡ with_list (told self.old) part before.now) }
-        ensures failed { OnErr result (told self.new ≡ told self.old) };
+        ensures called { OnOk result (calls self.new
+            ≡ with_call (calls self.old) (call.cancelled part before.now)) }
+        ensures failed { OnErr result
+            ((told self.new ≡ told self.old) × (calls self.new ≡ calls self.old)) };
 }

@@ -59,6 +59,8 @@ pub trait Copier {
         ensures later { faults self.old ≤ faults self.new }
         ensures cause { IsErrOf result CopyFault.Failed
             → HasRisen (faults self.old) (faults self.new) }
+        ensures counted { (IsErrOf result CopyFault.Failed → ⊥)
+            → faults self.new ≡ faults self.old }
         ensures made { OnOk result
             (copies self.new
             ≡ with_copy (copies self.old) (record { part = part; to = to; chunk = chunk })) }
@@ -128,6 +130,8 @@ pub fn copy_chunk<K: Copier>(
     ensures later { K.faults copier.old ≤ K.faults copier.new }
     ensures cause { IsErrOf result CopyFault.Failed
         → HasRisen (K.faults copier.old) (K.faults copier.new) }
+    ensures counted { (IsErrOf result CopyFault.Failed → ⊥)
+        → K.faults copier.new ≡ K.faults copier.old }
     ensures receipt { IfOk result
         (λ r. r ≡ record { lease = lease; part = part; to = to; chunk = chunk }) }
     ensures made { OnOk result

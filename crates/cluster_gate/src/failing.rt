@@ -1,6 +1,8 @@
 // An admin and a copier that fail at chosen calls.
 ghost use Rattle.std.specs.Prelude.{◌≡◌, ◌≤◌, ◌<◌, ◌+◌, length, IsErr, IsErrOf, OnOk, OnErr};
 ghost use Rattle.cc_base.specs.Outside.{HasCause, HasRisen};
+ghost use Rattle.cluster_gate.specs.Calls.{with_call};
+ghost use Rattle.cluster_gate.specs.Calls as call;
 ghost use Rattle.cluster_gate.specs.Copies.{with_copy};
 ghost use Rattle.cluster_gate.specs.Failing.{CountsCall, IsListed};
 ghost use Rattle.cluster_gate.specs.Lists.{installed, with_list};
@@ -48,6 +50,8 @@ impl<A: Admin> Admin for FailingAdmin<A> {
 
     ghost told = { λ f. A.told f.inner };
 
+    ghost calls = { λ f. A.calls f.inner };
+
     fn install(&mut self, alloc: Global, lists: &Assign) -> Result<(), InstallFault>
         // A call that is to fail does, and installs nothing. Each call is counted.
         ensures fails { IsListed self.old.calls → IsErrOf result InstallFault.Failed }
@@ -57,13 +61,18 @@ impl<A: Admin> Admin for FailingAdmin<A> {
         ensures later { ⟦<Self as Admin>⟧.faults self.old ≤ ⟦<Self as Admin>⟧.faults self.new }
         ensures cause { IsErrOf result InstallFault.Failed
             → HasRisen (⟦<Self as Admin>⟧.faults self.old) (⟦<Self as Admin>⟧.faults self.new) }
+        ensures counted { (IsErrOf result InstallFault.Failed → ⊥)
+            → ⟦<Self as Admin>⟧.faults self.new ≡ ⟦<Self as Admin>⟧.faults self.old }
         // The lists are those that were given, or stay as they were.
         ensures parts { OnOk result (A.parts self.new.inner ≡ length lists.now) }
         ensures lists { OnOk result
             (A.told self.new.inner ≡ installed (A.told self.old.inner) lists.now) }
+        ensures called { OnOk result (A.calls self.new.inner
+            ≡ with_call (A.calls self.old.inner) (call.installed lists.now)) }
         ensures failed { OnErr result
             ((A.parts self.new.inner ≡ A.parts self.old.inner)
-            × (A.told self.new.inner ≡ A.told self.old.inner)) }
+            × (A.told self.new.inner ≡ A.told self.old.inner)
+            × (A.calls self.new.inner ≡ A.calls self.old.inner)) }
     {
         if self.calls.next_fails() {
             return Err(InstallFault::Failed);
@@ -82,11 +91,17 @@ impl<A: Admin> Admin for FailingAdmin<A> {
         // It fails in no other way than the cluster does, and each fault is counted.
         ensures cause { HasCause (⟦<Self as Admin>⟧.faults self.old)
             (⟦<Self as Admin>⟧.faults self.new) result }
+        ensures counted { OnOk result
+            (⟦<Self as Admin>⟧.faults self.new ≡ ⟦<Self as Admin>⟧.faults self.old) }
         // One list is the one that was given, or all stay as they were.
         ensures parts { A.parts self.new.inner ≡ A.parts self.old.inner }
         ensures lists { OnOk result
             (A.told self.new.inner ≡ with_list (A.told self.old.inner) part union.now) }
-        ensures failed { OnErr result (A.told self.new.inner ≡ A.told self.old.inner) }
+        ensures called { OnOk result (A.calls self.new.inner
+            ≡ with_call (A.calls self.old.inner) (call.begun part union.now)) }
+        ensures failed { OnErr result
+            ((A.told self.new.inner ≡ A.told self.old.inner)
+            × (A.calls self.new.inner ≡ A.calls self.old.inner)) }
     {
         if self.calls.next_fails() {
             return Err(Failed);
@@ -105,11 +120,17 @@ impl<A: Admin> Admin for FailingAdmin<A> {
         // It fails in no other way than the cluster does, and each fault is counted.
         ensures cause { HasCause (⟦<Self as Admin>⟧.faults self.old)
             (⟦<Self as Admin>⟧.faults self.new) result }
+        ensures counted { OnOk result
+            (⟦<Self as Admin>⟧.faults self.new ≡ ⟦<Self as Admin>⟧.faults self.old) }
         // One list is the one that was given, or all stay as they were.
         ensures parts { A.parts self.new.inner ≡ A.parts self.old.inner }
         ensures lists { OnOk result
             (A.told self.new.inner ≡ with_list (A.told self.old.inner) part after.now) }
-        ensures failed { OnErr result (A.told self.new.inner ≡ A.told self.old.inner) }
+        ensures called { OnOk result (A.calls self.new.inner
+            ≡ with_call (A.calls self.old.inner) (call.committed part after.now)) }
+        ensures failed { OnErr result
+            ((A.told self.new.inner ≡ A.told self.old.inner)
+            × (A.calls self.new.inner ≡ A.calls self.old.inner)) }
     {
         if self.calls.next_fails() {
             return Err(Failed);
@@ -128,11 +149,17 @@ impl<A: Admin> Admin for FailingAdmin<A> {
         // It fails in no other way than the cluster does, and each fault is counted.
         ensures cause { HasCause (⟦<Self as Admin>⟧.faults self.old)
             (⟦<Self as Admin>⟧.faults self.new) result }
+        ensures counted { OnOk result
+            (⟦<Self as Admin>⟧.faults self.new ≡ ⟦<Self as Admin>⟧.faults self.old) }
         // One list is the one that was given, or all stay as they were.
         ensures parts { A.parts self.new.inner ≡ A.parts self.old.inner }
         ensures lists { OnOk result
             (A.told self.new.inner ≡ with_list (A.told self.old.inner) part before.now) }
-        ensures failed { OnErr result (A.told self.new.inner ≡ A.told self.old.inner) }
+        ensures called { OnOk result (A.calls self.new.inner
+            ≡ with_call (A.calls self.old.inner) (call.cancelled part before.now)) }
+        ensures failed { OnErr result
+            ((A.told self.new.inner ≡ A.told self.old.inner)
+            × (A.calls self.new.inner ≡ A.calls self.old.inner)) }
     {
         if self.calls.next_fails() {
             return Err(Failed);
@@ -184,6 +211,8 @@ impl<K: Copier> Copier for FailingCopier<K> {
         ensures later { ⟦<Self as Copier>⟧.faults self.old ≤ ⟦<Self as Copier>⟧.faults self.new }
         ensures cause { IsErrOf result CopyFault.Failed
             → HasRisen (⟦<Self as Copier>⟧.faults self.old) (⟦<Self as Copier>⟧.faults self.new) }
+        ensures counted { (IsErrOf result CopyFault.Failed → ⊥)
+            → ⟦<Self as Copier>⟧.faults self.new ≡ ⟦<Self as Copier>⟧.faults self.old }
         // The copy is told, or none is.
         ensures made { OnOk result
             (K.copies self.new.inner

@@ -1,5 +1,5 @@
 // A cluster and a copier in memory. They tell what they did, and never fail of themselves.
-ghost use Rattle.std.specs.Prelude.{◌≡◌, ◌≤◌, ◌<◌, [], Some, IfOk, IfSome, length};
+ghost use Rattle.std.specs.Prelude.{◌≡◌, ◌≤◌, ◌<◌, [], None, Some, IfOk, IfSome, length};
 ghost use Rattle.plan_terms.specs.Cluster.{list_of};
 ghost use Rattle.cluster_gate.specs.Held.{AreFew};
 
@@ -56,6 +56,8 @@ impl Admin for MemoryCluster {
     ghost parts = { λ m. length m.lists.items };
 
     ghost told = { λ m. Some m.lists.items };
+
+    ghost calls = { λ _. None };
 
     fn install(&mut self, alloc: Global, lists: &Assign) -> Result<(), InstallFault> {
         self.lists = held(alloc, lists.lists())?;

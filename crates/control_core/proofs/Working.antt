@@ -12,7 +12,8 @@ use Rattle.exec_terms.specs.declared.work.WorkKind.TheVariants.{Copy as ForCopy,
 use Rattle.exec_terms.specs.declared.task.Task.{Task}
 use Rattle.exec_terms.proofs.Calls.{worth}
 use Rattle.core_laws.proofs.Given.{flying}
-use Rattle.control_core.specs.LastWork.{last_list}
+use Rattle.cluster_gate.specs.Calls as call
+use Rattle.control_core.specs.LastWork.{last_call, last_list}
 
 -- the task of a lease that is worth it: it is unfinished, and its partition is known
 pub record IsWorking (s : State) (i : ℕ) : Type 0 where
@@ -44,3 +45,9 @@ pub new_list : (kind : WorkKind) → kind ≢ ForCancel → last_list kind ≡ (
 new_list ForCopy h = refl
 new_list ForCommit h = refl
 new_list ForCancel h = absurd (h refl)
+
+-- by a commit
+pub new_call : (kind : WorkKind) → kind ≢ ForCancel → last_call kind ≡ call.committed
+new_call ForCopy h = refl
+new_call ForCommit h = refl
+new_call ForCancel h = absurd (h refl)

@@ -2,10 +2,13 @@
 ghost use Rattle.std.specs.Prelude.{◌≡◌, ◌↔◌, ◌++◌, ◌∷◌, ◌≤◌, [], true, IsTrue, IfOk, IfErr, IfSome, MatchResult, OnOk, OnErr};
 ghost use Rattle.std.specs.List.{list_any};
 ghost use Rattle.cc_base.specs.Outside.{HasRisen};
+ghost use Rattle.cluster_gate.specs.Calls.{with_call};
+ghost use Rattle.cluster_gate.specs.Calls as call;
 ghost use Rattle.cluster_gate.specs.Lists.{installed};
 ghost use Rattle.cluster_json.specs.Ranges.{IsFile};
 ghost use Rattle.cluster_json.specs.Views.{file_seen};
 ghost use Rattle.core_terms.specs.Step.{reply_of};
+ghost use Rattle.core_terms.specs.Writes.{calls_after};
 ghost use Rattle.core_terms.specs.History.{AreLegal};
 ghost use Rattle.core_terms.specs.Input.{IsInput};
 ghost use Rattle.core_laws.specs.Alone.{IsQuiet};
@@ -71,8 +74,13 @@ impl<A: Admin> Book<A> {
         ensures told { IfOk result (λ b. A.told b.admin ≡ installed (A.told admin) file.lists) }
         ensures unchanged { IfErr result
             (λ e. (A.told e.1 ≡ A.told admin) × (A.parts e.1 ≡ A.parts admin)) }
+        ensures called { IfOk result
+            (λ b. A.calls b.admin ≡ with_call (A.calls admin) (call.installed file.lists)) }
+        ensures uncalled { IfErr result (λ e. A.calls e.1 ≡ A.calls admin) }
         ensures cause { IfErr result
             (λ e. e.0 ≡ InstallFault.Failed → HasRisen (A.faults admin) (A.faults e.1)) }
+        ensures counted { MatchResult result (λ b. A.faults b.admin ≡ A.faults admin)
+            (λ e. e.0 ≡ InstallFault.Memory → A.faults e.1 ≡ A.faults admin) }
         ensures later { MatchResult result (λ b. A.faults admin ≤ A.faults b.admin)
             (λ e. A.faults admin ≤ A.faults e.1) }
     {
@@ -110,11 +118,18 @@ impl<A: Admin> Book<A> {
         ensures unchanged { OnErr result (self.new.journal ≡ self.old.journal) }
         ensures handed_back { IfErr result (λ e. e.1 ≡ event) }
         ensures told { OnErr result (A.told self.new.admin ≡ A.told self.old.admin) }
+        ensures uncalled { OnErr result (A.calls self.new.admin ≡ A.calls self.old.admin) }
+        // The admin made the event's call, where it has one, and no other.
+        ensures called { OnOk result
+            (A.calls self.new.admin
+            ≡ calls_after (state_of self.old).desk.exec event (A.calls self.old.admin)) }
         // When there may be one.
         ensures fault { IfErr result (λ e. IsStepFault A.faults self.old event self.new e.0) }
         // Counts.
         ensures counted { OnOk result
             ((self.new.failures ≡ self.old.failures) × (self.new.late ≡ self.old.late)) }
+        ensures faultless { OnOk result
+            (A.faults self.new.admin ≡ A.faults self.old.admin) }
         ensures settled { self.new.settled ≡ self.old.settled }
         ensures later { A.faults self.old.admin ≤ A.faults self.new.admin }
     {

@@ -3,7 +3,7 @@ ghost use Rattle.std.specs.Prelude.{◌≡◌, ◌++◌, ◌∷◌, [], ◌+◌,
 ghost use Rattle.cc_base.specs.Outside.{HasRisen};
 ghost use Rattle.core_terms.specs.History.{IsLegal, is_outward, is_sure, kept_for};
 ghost use Rattle.core_terms.specs.Sound.{AreTickets};
-ghost use Rattle.core_terms.specs.Writes.{told_after};
+ghost use Rattle.core_terms.specs.Writes.{calls_after, told_after};
 ghost use Rattle.exec_terms.specs.Machine.{any_unfinished};
 
 use crate::machine::Machine;
@@ -72,14 +72,18 @@ impl Machine {
         // Few leases were given, and the admin has the executor's partitions.
         requires few { self.now.desk.exec.leases < 2 ^ 63 }
         requires installed { A.parts admin.old ≡ length self.now.desk.exec.base }
-        // The list that the event writes is told, or none is.
+        // The list that the event writes is told, with the call, or none is.
         ensures told { OnOk result
             (A.told admin.new ≡ told_after self.now.desk.exec event.now (A.told admin.old)) }
-        ensures failed { OnErr result (A.told admin.new ≡ A.told admin.old) }
+        ensures called { OnOk result
+            (A.calls admin.new ≡ calls_after self.now.desk.exec event.now (A.calls admin.old)) }
+        ensures failed { OnErr result
+            ((A.told admin.new ≡ A.told admin.old) × (A.calls admin.new ≡ A.calls admin.old)) }
         ensures parts { A.parts admin.new ≡ A.parts admin.old }
         // It fails where a call did alone, and only for an event that writes, while a task is
         // unfinished.
         ensures later { A.faults admin.old ≤ A.faults admin.new }
+        ensures counted { OnOk result (A.faults admin.new ≡ A.faults admin.old) }
         ensures cause { OnErr result (HasRisen (A.faults admin.old) (A.faults admin.new)) }
         ensures busy { OnErr result (any_unfinished self.now.desk.exec.tasks ≡ true) }
         ensures outward { OnErr result (is_outward event.now ≡ true) }

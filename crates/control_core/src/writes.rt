@@ -4,8 +4,8 @@ ghost use Rattle.cc_base.specs.Outside.{HasRisen};
 ghost use Rattle.exec_terms.specs.Leases.{test_lease};
 ghost use Rattle.exec_terms.specs.Machine.{any_unfinished, next_work};
 ghost use Rattle.core_terms.specs.History.{is_outward};
-ghost use Rattle.core_terms.specs.Writes.{begun, told_after, written};
-ghost use Rattle.control_core.specs.LastWork.{last_list};
+ghost use Rattle.core_terms.specs.Writes.{begun, calls_after, told_after, with_begun, with_written, written};
+ghost use Rattle.control_core.specs.LastWork.{last_call, last_list};
 
 use cc_base::Failed;
 use cluster_gate::Admin;
@@ -21,10 +21,14 @@ fn begin<A: Admin>(admin: &mut A, exec: &Exec) -> Result<(), Failed>
     // What the admin was told.
     ensures told { OnOk result
         (A.told admin.new ≡ begun exec.now (A.told admin.old) (next_work exec.now)) }
-    ensures failed { OnErr result (A.told admin.new ≡ A.told admin.old) }
+    ensures called { OnOk result
+        (A.calls admin.new ≡ with_begun exec.now (A.calls admin.old) (next_work exec.now)) }
+    ensures failed { OnErr result
+        ((A.told admin.new ≡ A.told admin.old) × (A.calls admin.new ≡ A.calls admin.old)) }
     ensures parts { A.parts admin.new ≡ A.parts admin.old }
     // A failure is a fault of the admin, and comes only while a task is unfinished.
     ensures later { A.faults admin.old ≤ A.faults admin.new }
+    ensures counted { OnOk result (A.faults admin.new ≡ A.faults admin.old) }
     ensures cause { OnErr result (HasRisen (A.faults admin.old) (A.faults admin.new)) }
     ensures busy { OnErr result (any_unfinished exec.now.tasks ≡ true) }
 {
@@ -46,10 +50,16 @@ fn finish<A: Admin>(admin: &mut A, exec: &Exec, lease: u64, kind: WorkKind) -> R
     ensures told { OnOk result
         (A.told admin.new
         ≡ written (last_list kind) exec.now (A.told admin.old) (test_lease exec.now lease kind)) }
-    ensures failed { OnErr result (A.told admin.new ≡ A.told admin.old) }
+    ensures called { OnOk result
+        (A.calls admin.new
+        ≡ with_written (last_call kind) (last_list kind) exec.now (A.calls admin.old)
+        (test_lease exec.now lease kind)) }
+    ensures failed { OnErr result
+        ((A.told admin.new ≡ A.told admin.old) × (A.calls admin.new ≡ A.calls admin.old)) }
     ensures parts { A.parts admin.new ≡ A.parts admin.old }
     // A failure is a fault of the admin, and comes only while a task is unfinished.
     ensures later { A.faults admin.old ≤ A.faults admin.new }
+    ensures counted { OnOk result (A.faults admin.new ≡ A.faults admin.old) }
     ensures cause { OnErr result (HasRisen (A.faults admin.old) (A.faults admin.new)) }
     ensures busy { OnErr result (any_unfinished exec.now.tasks ≡ true) }
 {
@@ -69,14 +79,18 @@ pub fn write<A: Admin>(admin: &mut A, exec: &Exec, event: &Event) -> Result<(), 
     // Few leases were given, and the admin has the executor's partitions.
     requires few { exec.now.leases < 2 ^ 63 }
     requires installed { A.parts admin.old ≡ length exec.now.base }
-    // The list that the event writes is told, or none is.
+    // The list that the event writes is told, with the call, or none is.
     ensures told { OnOk result (A.told admin.new
         ≡ told_after exec.now event.now (A.told admin.old)) }
-    ensures failed { OnErr result (A.told admin.new ≡ A.told admin.old) }
+    ensures called { OnOk result (A.calls admin.new
+        ≡ calls_after exec.now event.now (A.calls admin.old)) }
+    ensures failed { OnErr result
+        ((A.told admin.new ≡ A.told admin.old) × (A.calls admin.new ≡ A.calls admin.old)) }
     ensures parts { A.parts admin.new ≡ A.parts admin.old }
     // It fails where a call did alone, and only for an event that writes, while a task is
     // unfinished.
     ensures later { A.faults admin.old ≤ A.faults admin.new }
+    ensures counted { OnOk result (A.faults admin.new ≡ A.faults admin.old) }
     ensures cause { OnErr result (HasRisen (A.faults admin.old) (A.faults admin.new)) }
     ensures busy { OnErr result (any_unfinished exec.now.tasks ≡ true) }
     ensures outward { OnErr result (is_outward event.now ≡ true) }

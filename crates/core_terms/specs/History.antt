@@ -35,15 +35,6 @@ AreLegal events = AllByRecursion IsLegal events
 unfoldable pub state_after : Meaning → List Event → Core
 state_after file events = fold (next file) (opening_of file) events
 
--- legal events, each with the reply that the step gives in the state reached by those before it
-abbrev pub IsHistoryFrom : Meaning → Core → List (Event × Reply) → Type 0
-IsHistoryFrom file s [] = Unit {0}
-IsHistoryFrom file s (x ∷ xs) = IsLegal x.0 × (x.1 ≡ reply_of file s x.0) × IsHistoryFrom file (next file s x.0) xs
-
--- a legal history, from the opening state of the file
-abbrev pub IsHistory : Meaning → List (Event × Reply) → Type 0
-IsHistory file entries = IsHistoryFrom file (opening_of file) entries
-
 -- how many leases and tickets are out, and one more while Close was not asked: for so many entries the journal keeps room
 abbrev pub kept_for : Desk → ℕ
 kept_for d = leases_out d.exec.tasks + count_by (λ j. is_some j.ticket) d.jobs + (if d.closing then 0 else 1)

@@ -1,15 +1,16 @@
 -- Workers, one beside another.
-use Rattle.std.proofs.Common.{◌≡◌, ◌<◌, ◌≤◌, ℕ, suc, slice_index_or, List, [], ◌∷◌, ◌++◌, length, map, refl, ap, sym, ◌∙◌, subst, append_assoc, append-nil, arith}
-use Rattle.std.specs.List.{remove}
+use Rattle.std.proofs.Common.{◌≡◌, ◌≤◌, ℕ, suc, List, [], ◌∷◌, ◌++◌, length, map, refl, ap, sym, ◌∙◌, subst, append_assoc, append-nil, arith}
 use mathlib.Core.List.{IsPrefix}
 use Rattle.cluster_json.specs.File.{Meaning}
 use Rattle.core_terms.specs.declared.events.Event.{Event}
 use Rattle.mover_rounds.specs.Made.{Copies}
 use Rattle.mover_rounds.proofs.Prefixes.{prefix_self, prefix_trans}
-use Rattle.mover_workers.specs.Callers.{IsLater}
+use Rattle.mover_workers.specs.Callers.{HasGrown, IsLater, known_by_pass}
+use Rattle.mover_workers.specs.Loops.{CallsNoAdmin, HasMoved, HasPlanned, IsLoopCause}
+use Rattle.mover_workers.specs.declared.loops.LoopEnd.{LoopEnd}
 use Rattle.turn_book.specs.Known.{HasJoined, IsCut}
 use Rattle.turn_book.specs.Rule.{ArePlaced}
-use Rattle.live_service.specs.Workers.{AllSaw, AllTold, HasMovedOnce, HasPlannedOnce, HasRun, HasRunAll, HasShares, Mover, Pass, Planner, shares_of}
+use Rattle.live_service.specs.Workers.{AllSaw, AllTold, HasRun, HasRunAll, HasShares, Mover, Pass, Planner, shares_of}
 
 saw_on : (h g : List Event) → IsPrefix h g → (ps : List Pass) → AllSaw h ps → AllSaw g ps
 saw_on h g p [] a = tt
@@ -55,7 +56,7 @@ later_joined v kept own u back w cut p q joined = record {
 }
 
 -- no mover yet, and no planner
-pub run_alone : (Did : List Copies → List Copies → Pass → Pass → Type 0) (file : Meaning) (v w : Pass) (old new : List Copies) → Did old new v w → HasRun Did file v w old new 0
+pub run_alone : (Did : List Copies → List Copies → Pass → Pass → Type 0) (file : Meaning) (v w : Pass) (old new : List Copies) → Did old new v w → HasRun Did file v w old new [] 0
 run_alone Did file v w old new d = record {
   begun = v;
   same = refl;
@@ -63,17 +64,18 @@ run_alone Did file v w old new d = record {
   others_old = old;
   others_new = new;
   did = d;
-  movers = record { movers = []; are = tt; count_is = refl; old_are = refl; new_are = refl; shares = shares_none w };
+  movers = record { movers = []; are = tt; count_is = refl; old_are = refl; new_are = refl; ends_are = refl; shares = shares_none w };
 }
 
-pub run_all_alone : (Did : List Copies → List Copies → Pass → Pass → Type 0) (file : Meaning) (v w : Pass) (old new : List Copies) (movers : ℕ) → HasRun Did file v w old new movers → HasRunAll Did file v w old new movers 0
-run_all_alone Did file v w old new movers r = record { between = w; run = r; planners = record { planners = []; are = tt; count_is = refl; shares = shares_none w } }
+pub run_all_alone : (Did : List Copies → List Copies → Pass → Pass → Type 0) (file : Meaning) (v w : Pass) (old new : List Copies) (ends : List LoopEnd) (movers : ℕ) → HasRun Did file v w old new ends movers → HasRunAll Did file v w old new ends [] movers 0
+run_all_alone Did file v w old new ends movers r = record { between = w; run = r; planners = record { planners = []; are = tt; count_is = refl; ends_are = refl; shares = shares_none w } }
 
-module _ (Did : List Copies → List Copies → Pass → Pass → Type 0) (file : Meaning) (v kept own u back w : Pass) (cut : IsCut v kept own) (joined : HasJoined u back w) (placed : ArePlaced back.seen back.mine) where
+module _ (Did : List Copies → List Copies → Pass → Pass → Type 0) (file : Meaning) (v kept own u back w : Pass) (cut : IsCut v kept own) (joined : HasJoined u back w) (placed : ArePlaced back.seen back.mine) (grown : HasGrown own back) (end : LoopEnd) where
   -- one mover more
-  pub run_more : (old new : List Copies) (k l : Copies) (n m : ℕ) → m ≡ suc n → HasRun Did file kept u old new n → HasMovedOnce file own back k l → HasRun Did file v w (k ∷ old) (l ∷ new) m
-  run_more old new k l n m e r moved =
-      let one : Mover = record { given = own; back = back; old = k; new = l; end = moved.0 } in
+  pub run_more : (old new : List Copies) (k l : Copies) (ends : List LoopEnd) (n m : ℕ) → m ≡ suc n → HasRun Did file kept u old new ends n → HasMoved (known_by_pass file own) (known_by_pass file back) k l end → IsLoopCause (known_by_pass file own) (known_by_pass file back) end
+      → HasRun Did file v w (k ∷ old) (l ∷ new) (end ∷ ends) m
+  run_more old new k l ends n m e r moved cause =
+      let one : Mover = record { given = own; back = back; old = k; new = l; end = end } in
       record {
         begun = r.begun;
         same = r.same ∙ cut.mine.0;
@@ -83,18 +85,20 @@ module _ (Did : List Copies → List Copies → Pass → Pass → Type 0) (file 
         did = r.did;
         movers = record {
           movers = one ∷ r.movers.movers;
-          are = (record { fresh = cut.mine.1; placed = placed; moved = moved.1 }, r.movers.are);
+          are = (record { fresh = cut.mine.1; grown = grown; placed = placed; moved = moved; cause = cause }, r.movers.are);
           count_is = ap suc r.movers.count_is ∙ sym e;
           old_are = ap (λ (xs : List Copies). k ∷ xs) r.movers.old_are;
           new_are = ap (λ (xs : List Copies). l ∷ xs) r.movers.new_are;
+          ends_are = ap (λ (xs : List LoopEnd). end ∷ xs) r.movers.ends_are;
           shares = shares_more r.over u back w (map (λ (x : Mover). x.back) r.movers.movers) joined r.movers.shares;
         };
       }
 
   -- one planner more
-  pub run_all_more : (old new : List Copies) (movers n m : ℕ) → m ≡ suc n → HasRunAll Did file kept u old new movers n → HasPlannedOnce file own back → HasRunAll Did file v w old new movers m
-  run_all_more old new movers n m e r planned =
-      let one : Planner = record { given = own; back = back; end = planned.0 } in
+  pub run_all_more : (old new : List Copies) (mover_ends ends : List LoopEnd) (movers n m : ℕ) → m ≡ suc n → HasRunAll Did file kept u old new mover_ends ends movers n → HasPlanned (known_by_pass file own) (known_by_pass file back) end → CallsNoAdmin end
+      → HasRunAll Did file v w old new mover_ends (end ∷ ends) movers m
+  run_all_more old new mover_ends ends movers n m e r planned no_admin =
+      let one : Planner = record { given = own; back = back; end = end } in
       record {
         between = r.between;
         run = record {
@@ -108,13 +112,9 @@ module _ (Did : List Copies → List Copies → Pass → Pass → Type 0) (file 
         };
         planners = record {
           planners = one ∷ r.planners.planners;
-          are = (record { fresh = cut.mine.1; placed = placed; planned = planned.1 }, r.planners.are);
+          are = (record { fresh = cut.mine.1; grown = grown; placed = placed; planned = planned; no_admin = no_admin }, r.planners.are);
           count_is = ap suc r.planners.count_is ∙ sym e;
+          ends_are = ap (λ (xs : List LoopEnd). end ∷ xs) r.planners.ends_are;
           shares = shares_more r.between u back w (map (λ (x : Planner). x.back) r.planners.planners) joined r.planners.shares;
         };
       }
-
--- the first of a list was taken away
-pub first_taken : {X : Type 0} (xs ys : List X) (x : X) → 0 < length xs → x ≡ slice_index_or xs 0 x → ys ≡ remove xs 0 → xs ≡ x ∷ ys
-first_taken {X} [] ys x p v r = absurd (omega (arith, p))
-first_taken {X} (z ∷ xs) ys x p v r = ap (λ (h : X). h ∷ xs) (sym v) ∙ ap (λ (t : List X). x ∷ t) (sym r)

@@ -1,5 +1,7 @@
 pub mod Crews
+pub mod Gone
+pub mod Teams
 pub mod Accepting
-pub mod Closing
+pub mod Fronting
 pub mod Sharing
 pub mod Unclosed

@@ -29,10 +29,12 @@ use Rattle.rest_session.proofs.Spared.{AreFree, IsSpared, both_free, close_spare
 use Rattle.rest_session.specs.Answered.{HasServed}
 use Rattle.rest_session.specs.declared.session.LinkEnd.{LinkEnd}
 use Rattle.turn_book.specs.Rule.{once_below, times}
-use Rattle.live_service.specs.Closing.{HasFronted, IsClosed}
-use Rattle.live_service.specs.Fronts.{HasAnswered, HasClosed, HasServedNet, IsFront, IsLinkRun, LinkRun}
+use Rattle.live_service.specs.Asked.{ServingAsked}
+use Rattle.live_service.specs.Closing.{HasFronted}
+use Rattle.mover_workers.specs.Close.{HasClosed, IsClosed}
+use Rattle.live_service.specs.Fronts.{HasAnswered, HasServedNet, IsFront, IsLinkRun, LinkRun}
 use Rattle.live_service.specs.Live.{AreAllOf, IsShared}
-use Rattle.live_service.specs.Views.{FrontView, ServedView}
+use Rattle.live_service.specs.Views.{FrontTold, TeamView}
 use Rattle.live_service.specs.declared.front.FrontEnd.{FrontEnd}
 use Rattle.live_service.specs.declared.front.FrontEnd.TheVariants as front
 use Rattle.live_service.specs.Workers.{IsMover, IsPlanner, Mover, Pass, Planner, shares_of}
@@ -151,16 +153,16 @@ module _ (file : Meaning) where
   links_open [] h = tt
   links_open (r ∷ rs) h = both_at is_close (shares_of (map (λ x. x.back) rs)) r.back.mine (links_open rs h.1) (served_open r.given r.back r.old r.new r.before.left r.before.written r.after.written r.end h.0.fresh h.0.answered)
 
-  net_open : (f g : FrontView) (old new : List Copies) (links : List ServedView) (v w : Pass) → v.mine ≡ [] → HasServedNet file f g old new links v w → AreFreeAt is_close w.mine
-  net_open f g old new links v w fresh h = subst (AreFreeAt is_close) (sym (h.served.shares.mine ∙ ap (λ (m : List (ℕ × Event)). m ++ shares_of (map (λ (r : LinkRun). r.back) h.served.runs)) fresh)) (links_open h.served.runs h.served.are)
+  net_open : (f g : FrontTold) (old new : List Copies) (v w : Pass) → v.mine ≡ [] → HasServedNet file f g old new v w → AreFreeAt is_close w.mine
+  net_open f g old new v w fresh h = subst (AreFreeAt is_close) (sym (h.served.shares.mine ∙ ap (λ (m : List (ℕ × Event)). m ++ shares_of (map (λ (r : LinkRun). r.back) h.served.runs)) fresh)) (links_open h.served.runs h.served.are)
 
-  pub answered_open : (asked : Option ℕ) (f g : FrontView) (links : List ServedView) (end : FrontEnd) (old new : List Copies) (v w : Pass) → v.mine ≡ [] → HasAnswered file asked f g links end old new v w → AreFreeAt is_close w.mine
-  answered_open None f g links (front.Console end) old new v w fresh h = served_open v w f.copier g.copier f.console.left f.console.written g.console.written end fresh h.0.answered
-  answered_open (Some n) f g links front.Accepted old new v w fresh h = net_open f g old new links v w fresh h.0
-  answered_open (Some n) f g links front.ListenerFault old new v w fresh h = net_open f g old new links v w fresh h.0
-  answered_open None f g links front.Accepted old new v w fresh h = absurd h
-  answered_open None f g links front.ListenerFault old new v w fresh h = absurd h
-  answered_open (Some n) f g links (front.Console end) old new v w fresh h = absurd h
+  pub answered_open : (asked : Option ServingAsked) (f g : FrontTold) (end : FrontEnd) (old new : List Copies) (v w : Pass) → v.mine ≡ [] → HasAnswered file asked f g end old new v w → AreFreeAt is_close w.mine
+  answered_open None f g (front.Console end) old new v w fresh h = served_open v w f.copier g.copier f.console.left f.console.written g.console.written end fresh h.0.answered
+  answered_open (Some n) f g front.Accepted old new v w fresh h = net_open f g old new v w fresh h.0
+  answered_open (Some n) f g front.ListenerFault old new v w fresh h = net_open f g old new v w fresh h.0
+  answered_open None f g front.Accepted old new v w fresh h = absurd h
+  answered_open None f g front.ListenerFault old new v w fresh h = absurd h
+  answered_open (Some n) f g (front.Console end) old new v w fresh h = absurd h
 
 -- ---- a journal whose places are these
 
@@ -196,18 +198,18 @@ journal_open journal mine all free = all_open journal (λ x e at.
     subst (λ (y : Event). is_close y ≡ false) same (open_at mine found.0 found.1 free found.2))
 
 -- so a front whose Close wasn't taken is none: it asked the only one
-module _ {A : Type 0} (asked : Option ℕ) (f g : FrontView) (links : List ServedView) (end : FrontEnd) (b c : BookView A) (old new : List Copies) (movers planners : ℕ) where
-  front_closes : (h : IsShared (λ xs ys. HasFronted (HasAnswered b.file asked f g links end xs ys)) b c old new movers planners) → IsClosed h.run.run.did.served h.run.run.over → HasClosed h.run.run.did.served h.run.run.over
+module _ {A : Type 0} (asked : Option ServingAsked) (f g : FrontTold) (end : FrontEnd) (b c : BookView A) (s t : TeamView) (movers planners : ℕ) where
+  front_closes : (h : IsShared (λ xs ys. HasFronted (HasAnswered b.file asked f g end xs ys)) b c s t movers planners) → IsClosed h.run.run.did.served h.run.run.over → HasClosed h.run.run.did.served h.run.run.over
   front_closes h (inl closed) = closed
   front_closes h (inr none) =
       let r = h.run.run in
       let fresh : r.begun.mine ≡ [] = r.same ∙ h.fresh in
-      let served : AreFreeAt is_close r.over.mine = subst (AreFreeAt is_close) (sym none.mine) (answered_open b.file asked f g links end r.others_old r.others_new r.begun r.did.served fresh r.did.answered) in
+      let served : AreFreeAt is_close r.over.mine = subst (AreFreeAt is_close) (sym none.mine) (answered_open b.file asked f g end r.others_old r.others_new r.begun r.did.served fresh r.did.answered) in
       let moved : AreFreeAt is_close h.run.between.mine = subst (AreFreeAt is_close) (sym r.movers.shares.mine) (both_at is_close r.over.mine _ served (movers_open b.file r.movers.movers r.movers.are)) in
       let all : AreFreeAt is_close h.back.mine = subst (AreFreeAt is_close) (sym h.run.planners.shares.mine) (both_at is_close h.run.between.mine _ moved (planners_open b.file h.run.planners.planners h.run.planners.are)) in
-      absurd (let one = journal_open c.journal h.back.mine h.shares all in let other = is_closed (HasAnswered b.file asked f g links end) b c old new movers planners h in (let f : false ≡ true = sym one ∙ other in cc))
+      absurd (let one = journal_open c.journal h.back.mine h.shares all in let other = is_closed (HasAnswered b.file asked f g end) b c s t movers planners h in (let f : false ≡ true = sym one ∙ other in cc))
 
-  pub closes_once : IsShared (λ xs ys. HasFronted (HasAnswered b.file asked f g links end xs ys)) b c old new movers planners → IsShared (λ xs ys. IsFront (HasAnswered b.file asked f g links end xs ys)) b c old new movers planners
+  pub closes_once : IsShared (λ xs ys. HasFronted (HasAnswered b.file asked f g end xs ys)) b c s t movers planners → IsShared (λ xs ys. IsFront (HasAnswered b.file asked f g end xs ys)) b c s t movers planners
   closes_once h = record {
     given = h.given;
     fresh = h.fresh;

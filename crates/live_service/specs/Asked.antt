@@ -1,12 +1,44 @@
--- How many links are asked for.
-use Rattle.std.specs.Prelude.{ℕ, Option, Some, None, option_map}
+-- How many links are asked for, and what they, the movers and the planners need.
+use Rattle.std.specs.Prelude.{◌≡◌, ◌≤◌, ◌<◌, ◌+◌, ℕ, List, [], length, Option, Some, None, option_map, string_bytes}
+use Rattle.live_service.specs.Views.{ServiceView, TeamView}
 use Rattle.live_service.specs.declared.links.Serving.{Serving}
 
--- a number of links, or none for the console
-abbrev pub links_asked : Option Serving → Option ℕ
-links_asked serving = option_map (λ s. s.links) serving
+-- links that are asked for: so many, accepted at this address
+pub record ServingAsked : Type 0 where
+  pub address : List ℕ
+  pub links : ℕ
+
+-- or none, for the console
+abbrev pub serving_told : Option Serving → Option ServingAsked
+serving_told serving = option_map (λ s. record { address = string_bytes s.address; links = s.links }) serving
 
 -- as many copiers and places are needed
 abbrev pub links_of : Option Serving → ℕ
 links_of None = 0
 links_of (Some s) = s.links
+
+-- a copier, a part and a place for each of so many links, beside those of others
+pub record HasSpace (s : ServiceView) (had others links : ℕ) : Type 0 where
+  pub copiers : others + links ≤ length s.copiers
+  pub room : length s.copiers ≤ s.room
+  pub parts : others + links < had
+  pub none : s.served ≡ []
+  pub places : links ≤ s.places
+
+-- the same for so many links, movers and planners, and a place for each loop's end
+pub record IsReady (t : TeamView) (had movers planners links : ℕ) : Type 0 where
+  pub copiers : movers + links ≤ length t.front.service.copiers
+  pub room : length t.front.service.copiers ≤ t.front.service.room
+  pub parts : planners + (movers + links) < had
+  pub none : t.front.service.served ≡ []
+  pub places : links ≤ t.front.service.places
+  pub no_mover : t.movers ≡ []
+  pub mover_room : movers ≤ t.mover_room
+  pub no_planner : t.planners ≡ []
+  pub planner_room : planners ≤ t.planner_room
+
+-- all copiers are back, and there is no less room
+pub record IsWhole (s t : ServiceView) : Type 0 where
+  pub copiers : length t.copiers ≡ length s.copiers
+  pub room : s.room ≤ t.room
+  pub places : s.places ≤ t.places

@@ -3,5 +3,6 @@ pub mod Workers
 pub mod Fronts
 pub mod Closing
 pub mod Asked
+pub mod Runs
 pub mod Live
 pub mod Heals

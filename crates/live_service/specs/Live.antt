@@ -11,8 +11,9 @@ use Rattle.mover_rounds.specs.Owned.{IsSince, known_by_owner}
 use Rattle.mover_rounds.specs.declared.drains.DrainEnd.{DrainEnd}
 use Rattle.mover_rounds.specs.declared.drains.DrainEnd.TheVariants as drain
 use Rattle.turn_book.specs.Rule.{ArePlaced, once_below, times}
+use Rattle.live_service.specs.Asked.{ServingAsked}
 use Rattle.live_service.specs.Fronts.{HasAnswered, IsFront}
-use Rattle.live_service.specs.Views.{FrontView, ServedView}
+use Rattle.live_service.specs.Views.{FrontView, TeamView, told_of}
 use Rattle.live_service.specs.Workers.{HasRunAll, Pass}
 use Rattle.live_service.specs.declared.front.FrontEnd.{FrontEnd}
 
@@ -23,11 +24,11 @@ pub record AreAllOf (journal : List Event) (mine : List (ℕ × Event)) : Type 0
 
 -- the journal of a book that was just opened is now that of a front, of movers and of planners that ran beside one another: each place
 -- of it is in just one of their shares, and no share was told more faults of the admin than the book answered
-pub record IsShared {A : Type 0} (Did : List Copies → List Copies → Pass → Pass → Type 0) (b c : BookView A) (old new : List Copies) (movers planners : ℕ) : Type 0 where
+pub record IsShared {A : Type 0} (Did : List Copies → List Copies → Pass → Pass → Type 0) (b c : BookView A) (s t : TeamView) (movers planners : ℕ) : Type 0 where
   pub given : Pass
   pub fresh : given.mine ≡ []
   pub back : Pass
-  pub run : HasRunAll Did b.file given back old new movers planners
+  pub run : HasRunAll Did b.file given back s.front.service.copiers t.front.service.copiers t.movers t.planners movers planners
   pub file_is : c.file ≡ b.file
   pub shares : AreAllOf c.journal back.mine
   pub saw : IsPrefix back.seen c.journal
@@ -42,10 +43,11 @@ pub record IsBehind {A : Type 0} (faults : A → ℕ) (b c : BookView A) (k l : 
 
 -- a live service: what was asked was answered, and then Close was asked, which no other actor did; behind the shares of all come the
 -- rounds of a drain over the settled book
-pub record IsLive {A : Type 0} (faults : A → ℕ) (asked : Option ℕ) (b c : BookView A) (old new : List Copies) (movers planners : ℕ) (f g : FrontView) (links : List ServedView) (end : FrontEnd) (drain : DrainEnd) : Type 0 where
+pub record IsLive {A : Type 0} (faults : A → ℕ) (asked : Option ServingAsked) (b c : BookView A) (s t : TeamView) (end : FrontEnd) (drain : DrainEnd) (movers planners : ℕ) : Type 0 where
   pub closed : BookView A
-  pub between : Copies
-  pub shared : IsShared (λ xs ys. IsFront (HasAnswered b.file asked f (record g { copier = between }) links end xs ys)) b closed old new movers planners
+  pub between : TeamView
+  pub between_is : between ≡ record t { front = record t.front { copier = between.front.copier } }
+  pub shared : IsShared (λ xs ys. IsFront (HasAnswered b.file asked (told_of s.front) (told_of between.front) end xs ys)) b closed s between movers planners
   pub settled : BookView A
   pub settled_is : settled ≡ record closed { settled = true }
-  pub behind : IsBehind faults settled c between g.copier drain
+  pub behind : IsBehind faults settled c between.front.copier t.front.copier drain

@@ -1,14 +1,9 @@
--- What is told of links, of a listener, and of what answers requests.
-use Rattle.std.specs.Prelude.{ℕ, List, Option, map}
-use Rattle.cc_base.specs.declared.outside.Sink as sink_trait
-use Rattle.cc_base.specs.declared.outside.Source as source_trait
-use Rattle.cluster_gate.specs.declared.copier.Copier as copier_trait
-use Rattle.mover_rounds.specs.Made.{Copies, copier_of}
+-- What is told of links, of a listener, and of those who take part in a live service.
+use Rattle.std.specs.Prelude.{ℕ, List, Option}
+use Rattle.mover_rounds.specs.Made.{Copies}
+use Rattle.mover_workers.specs.declared.loops.LoopEnd.{LoopEnd}
 use Rattle.net_links.specs.Links.{AcceptedLink}
-use Rattle.net_links.specs.declared.listener.Listener as listener_trait
 use Rattle.rest_session.specs.declared.session.LinkEnd.{LinkEnd}
-use Rattle.live_service.specs.declared.front.Front.{Front}
-use Rattle.live_service.specs.declared.links.Served.{Served}
 
 -- the bytes that are left to read and those that were written, where they are told, and how many reads and writes have failed
 pub record LinkView : Type 0 where
@@ -25,41 +20,43 @@ pub record ServedView : Type 0 where
   pub link : LinkView
   pub end : LinkEnd
 
-abbrev pub served_of : {C : Type 0} → (C → LinkView) → Served C → ServedView
-served_of view served = record { link = view served.link; end = served.end }
-
--- how many calls of a listener have failed, and the links that it accepted, where they are told
+-- how many calls of a listener have failed, and where they are told the links that it accepted and the addresses that it listened at
 pub record NetView : Type 0 where
   pub faults : ℕ
   pub accepted : Option (List AcceptedLink)
+  pub heard : Option (List (List ℕ))
 
-abbrev pub net_of : {N : Type 0} → (N → ℕ) → (N → Option (List AcceptedLink)) → N → NetView
-net_of faults accepted listener = record { faults = faults listener; accepted = accepted listener }
+abbrev pub net_of : {N : Type 0} → (N → ℕ) → (N → Option (List AcceptedLink)) → (N → Option (List (List ℕ))) → N → NetView
+net_of faults accepted heard listener = record { faults = faults listener; accepted = accepted listener; heard = heard listener }
 
--- what answers requests: a console, a listener, and the copier of the console's pumps and of the drain
+-- a listener with the copiers of its links and the links that were served, and how many of both there is room for
+pub record ServiceView : Type 0 where
+  pub net : NetView
+  pub copiers : List Copies
+  pub served : List ServedView
+  pub room : ℕ
+  pub places : ℕ
+
+-- what answers requests: a console, with the copier of its pumps and of the drain, and the service of a listener
 pub record FrontView : Type 0 where
   pub copier : Copies
   pub console : LinkView
+  pub service : ServiceView
+
+-- the same without its copiers
+pub record FrontTold : Type 0 where
+  pub copier : Copies
+  pub console : LinkView
   pub net : NetView
+  pub served : List ServedView
 
-abbrev pub front_of : {K L N : Type 0} → (K → Copies) → (L → LinkView) → (N → NetView) → K → L → N → FrontView
-front_of copies link net copier console listener = record { copier = copies copier; console = link console; net = net listener }
+abbrev pub told_of : FrontView → FrontTold
+told_of f = record { copier = f.copier; console = f.console; net = f.service.net; served = f.service.served }
 
--- ---- the same by what the traits tell
-
-abbrev pub copies_told : {K : Type 0} → copier_trait.Ghosts K → K → Copies
-copies_told k = copier_of k.copies k.faults
-
-abbrev pub link_told : {L : Type 0} → source_trait.Ghosts L → sink_trait.Ghosts L → L → LinkView
-link_told r w = link_of r.left w.written r.faults w.faults
-
--- the links that were served, in order
-abbrev pub served_told : {C : Type 0} → source_trait.Ghosts C → sink_trait.Ghosts C → List (Served C) → List ServedView
-served_told r w served = map (served_of (link_told r w)) served
-
-abbrev pub front_told : {K L N C : Type 0} → copier_trait.Ghosts K → source_trait.Ghosts L → sink_trait.Ghosts L → listener_trait.Ghosts N C → Front K L N C → FrontView
-front_told k r w n f = front_of (copies_told k) (link_told r w) (net_of n.faults n.accepted) f.copier f.console f.service.listener
-
--- the copiers of a front's links
-abbrev pub copiers_told : {K L N C : Type 0} → copier_trait.Ghosts K → Front K L N C → List Copies
-copiers_told k f = map (copies_told k) f.service.copiers.items
+-- a front, and how the loops of movers and planners ended, with the room for as many
+pub record TeamView : Type 0 where
+  pub front : FrontView
+  pub movers : List LoopEnd
+  pub mover_room : ℕ
+  pub planners : List LoopEnd
+  pub planner_room : ℕ

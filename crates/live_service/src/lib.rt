@@ -8,9 +8,13 @@ mod laws;
 mod link;
 mod links;
 mod live;
+mod parties;
+mod service;
 
-pub use front::{Front, FrontEnd};
+pub use front::FrontEnd;
 pub use laws::workers_heal_nothing;
 pub use link::serve_link;
-pub use links::{Served, Service, Serving};
+pub use links::Serving;
 pub use live::{Live, Unshared, run_live_service};
+pub use parties::{Front, Of, Parties, Team};
+pub use service::{Served, Service};

@@ -1,8 +1,8 @@
 // The requests of a link over a shared book.
 ghost use Rattle.std.specs.Prelude.{◌≡◌, ◌≤◌};
 ghost use Rattle.cc_base.specs.Outside.{HasRisen};
-ghost use Rattle.live_service.specs.Views.{copies_told};
-ghost use Rattle.mover_workers.specs.Callers.{Belongs, IsLater, known_by_pass};
+ghost use Rattle.mover_rounds.specs.Made.{copier_of};
+ghost use Rattle.mover_workers.specs.Callers.{Belongs, HasGrown, known_by_pass};
 ghost use Rattle.rest_session.specs.Answered.{HasServed};
 
 use cc_base::Link;
@@ -27,13 +27,13 @@ pub fn serve_link<A: Admin, K: Copier, L: Link, R: Threads + Wait + Sync>(
 ) -> (Pass<Book<A>>, LinkEnd)
     // The pass is one of the turn.
     requires own { Belongs turn.now pass }
-    // The pass is one of the turn, and has seen no less.
+    // The pass is one of the turn, and has grown.
     ensures own { Belongs turn.now result.0 }
-    ensures later { IsLater pass result.0 }
+    ensures grown { HasGrown pass result.0 }
     // The requests were answered, each by the reply to its own entries.
     ensures served { HasServed (known_by_pass turn.now.start.file pass)
-        (known_by_pass turn.now.start.file result.0) (copies_told K.Copier copier.old)
-        (copies_told K.Copier copier.new) (L.left link.old) (L.written link.old)
+        (known_by_pass turn.now.start.file result.0) (copier_of K.copies K.faults copier.old)
+        (copier_of K.copies K.faults copier.new) (L.left link.old) (L.written link.old)
         (L.written link.new) result.1 }
     // Counts never fall, and a fault of the link comes from one that rose.
     ensures source { L.Source.faults link.old ≤ L.Source.faults link.new }

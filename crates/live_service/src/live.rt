@@ -1,23 +1,23 @@
 // A live service, whole.
-ghost use Rattle.std.specs.Prelude.{◌≡◌, ◌≤◌, ◌+◌, ◌<◌, ◌⊎◌, ℕ, [], vec_len, vec_capacity, IfOk, IfErr, IfSome};
+ghost use Rattle.std.specs.Prelude.{◌≡◌, ◌≤◌, ◌⊎◌, ℕ, [], IfOk, IfErr, IfSome};
 ghost use Rattle.control_core.specs.Books.{state_of};
 ghost use Rattle.core_laws.specs.Alone.{IsDone};
+ghost use Rattle.core_laws.specs.Events.{AreListsShown};
 ghost use Rattle.core_terms.specs.History.{AreLegal};
+ghost use Rattle.core_terms.specs.Sound.{IsSound};
 ghost use Rattle.exec_terms.specs.Machine.{lists_now};
-ghost use Rattle.live_service.specs.Asked.{links_asked, links_of};
-ghost use Rattle.live_service.specs.Closing.{HasFronted};
-ghost use Rattle.live_service.specs.Fronts.{HasAnswered};
+ghost use Rattle.live_service.specs.Asked.{IsReady, IsWhole, links_of, serving_told};
 ghost use Rattle.live_service.specs.Live.{IsLive, IsShared};
-ghost use Rattle.live_service.specs.Views.{copiers_told, front_told, served_told};
+ghost use Rattle.live_service.specs.Runs.{Fronted};
 
 use crate::crew::with_workers;
-use crate::front::{Front, FrontEnd};
+use crate::front::FrontEnd;
 use crate::links::Serving;
-use cc_base::Link;
-use cluster_gate::{Admin, Copier};
+use crate::parties::{Front, Parties, Team};
 use control_core::Book;
+use core_laws::every_history;
 use mover_rounds::DrainEnd;
-use net_links::Listener;
+use mover_workers::Caller;
 use rest_session::finish;
 use std::alloc::Global;
 use std::sync::Wait;
@@ -26,70 +26,50 @@ use turn_book::Turn;
 
 /// What comes back where there was no memory to share the book.
 #[derive(Drop)]
-pub struct Unshared<A: Admin, K, L, N: Listener>
-where
-    N::Conn: Drop,
-{
-    pub book: Book<A>,
-    pub front: Front<K, L, N>,
+pub struct Unshared<P: Parties> {
+    pub book: Book<P::Gate>,
+    pub team: Team<P>,
 }
 
 // Shares a book that was just opened between a front, movers and planners.
-fn share<
-    A: Admin + Send,
-    K: Copier + Send + Drop,
-    L: Link + Drop,
-    N: Listener + Send + Drop,
-    R: Threads + Wait + Sync,
->(
+fn share<P: Parties, R: Threads + Wait + Sync>(
     rt: &R,
     alloc: Global,
-    book: Book<A>,
+    book: Book<P::Gate>,
+    team: Team<P>,
     movers: u32,
     planners: u32,
-    front: Front<K, L, N>,
     serving: Option<Serving>,
-) -> Result<(Book<A>, Front<K, L, N>, FrontEnd), Unshared<A, K, L, N>>
-where
-    N::Conn: Send + Drop,
-    // Nothing was done before.
+) -> Result<(Book<P::Gate>, Team<P>, FrontEnd), Unshared<P>>
+    // Nothing was done before, and there is a copier, a part and a place for each.
     requires opened { book.journal ≡ [] }
-    // A copier and a part for each thread, and room for the links.
-    requires copiers { movers + links_of serving ≤ vec_len front.service.copiers }
-    requires few { planners + (movers + links_of serving) < 1048576 }
-    requires none { front.service.served.items ≡ [] }
-    requires room { links_of serving ≤ vec_capacity front.service.served }
+    requires ready { IsReady team 1048576 movers planners (links_of serving) }
     // What was done, and the copiers come back.
-    ensures shared { IfOk result (λ r. IsShared (λ xs ys. HasFronted (HasAnswered book.file
-        (links_asked serving) (front_told K.Copier L.Source L.Sink N.Listener front)
-        (front_told K.Copier L.Source L.Sink N.Listener r.1)
-        (served_told N.Conn.Source N.Conn.Sink r.1.service.served.items) r.2 xs ys)) book r.0
-        (copiers_told K.Copier front) (copiers_told K.Copier r.1) movers planners) }
-    ensures count { IfOk result (λ r. vec_len r.1.service.copiers ≡ vec_len front.service.copiers) }
-    ensures copiers_room { IfOk result
-        (λ r. vec_capacity front.service.copiers ≤ vec_capacity r.1.service.copiers) }
+    ensures shared { IfOk result (λ r. IsShared (Fronted book.file (serving_told serving) team.front
+        r.1.front r.2) book r.0 team r.1 movers planners) }
+    ensures back { IfOk result (λ r. IsWhole team.front.service r.1.front.service) }
     // Out of memory, all is handed back.
-    ensures handed_back { IfErr result (λ e. (e.book ≡ book) × (e.front ≡ front)) }
+    ensures handed_back { IfErr result (λ e. (e.book ≡ book) × (e.team ≡ team)) }
 {
     match Turn::new(alloc, book) {
         Ok((turn, pass)) => {
-            let (pass, front, end) = with_workers(
-                rt, alloc, &turn, pass, movers, planners, front, serving,
+            let caller = Caller::new(rt, &turn, pass);
+            let (caller, team, end) = with_workers(
+                rt, alloc, caller, team, movers, planners, serving,
             );
-            Ok((turn.close(pass), front, end))
+            let pass = caller.into_pass();
+            Ok((turn.close(pass), team, end))
         }
-        Err((_, book)) => Err(Unshared { book, front }),
+        Err((_, book)) => Err(Unshared { book, team }),
     }
 }
 
 /// A live service that is over.
 #[derive(Drop)]
-pub struct Live<A: Admin, K, L, N: Listener>
-where
-    N::Conn: Drop,
-{
-    pub book: Book<A>,
-    pub front: Front<K, L, N>,
+pub struct Live<P: Parties> {
+    pub book: Book<P::Gate>,
+    /// The front, and how movers and planners ended.
+    pub team: Team<P>,
     /// How the front ended.
     pub end: FrontEnd,
     /// How the drain behind it ended.
@@ -105,40 +85,29 @@ where
 /// # Errors
 ///
 /// Out of memory before anything was done. All comes back as it was.
-pub fn run_live_service<
-    A: Admin + Send,
-    K: Copier + Send + Drop,
-    L: Link + Drop,
-    N: Listener + Send + Drop,
-    R: Threads + Wait + Sync,
->(
+pub fn run_live_service<P: Parties, R: Threads + Wait + Sync>(
     rt: &R,
     alloc: Global,
-    book: Book<A>,
+    book: Book<P::Gate>,
+    team: Team<P>,
     movers: u32,
     planners: u32,
-    front: Front<K, L, N>,
     serving: Option<Serving>,
-) -> Result<Live<A, K, L, N>, Unshared<A, K, L, N>>
-where
-    N::Conn: Send + Drop,
-    // A copier and a part for each thread, room for the links, and nothing was done before.
+) -> Result<Live<P>, Unshared<P>>
+    // Nothing was done before, and there is a copier, a part and a place for each.
     requires opened { book.journal ≡ [] }
-    requires copiers { movers + links_of serving ≤ vec_len front.service.copiers }
-    requires few { planners + (movers + links_of serving) < 1048576 }
-    requires none { front.service.served.items ≡ [] }
-    requires room { links_of serving ≤ vec_capacity front.service.served }
+    requires ready { IsReady team 1048576 movers planners (links_of serving) }
     // What was done, by whom, and with which copies and replies.
-    ensures live { IfOk result (λ r. IsLive A.faults (links_asked serving) book r.book
-        (copiers_told K.Copier front) (copiers_told K.Copier r.front) movers planners
-        (front_told K.Copier L.Source L.Sink N.Listener front)
-        (front_told K.Copier L.Source L.Sink N.Listener r.front)
-        (served_told N.Conn.Source N.Conn.Sink r.front.service.served.items) r.end r.drain) }
+    ensures live { IfOk result (λ r. IsLive P.Gate.faults (serving_told serving) book r.book
+        team r.team r.end r.drain movers planners) }
     // The journal is a legal history of the book's file, whose lists the admin has.
     ensures file { IfOk result (λ r. r.book.file ≡ book.file) }
     ensures legal { IfOk result (λ r. AreLegal r.book.journal) }
-    ensures lists { IfOk result (λ r. IfSome (A.told r.book.admin)
+    ensures lists { IfOk result (λ r. IfSome (P.Gate.told r.book.admin)
         (λ lists. lists ≡ lists_now (state_of r.book).desk.exec)) }
+    // So its state is sound, and each list is the old one, the new one or, in flight, both.
+    ensures sound { IfOk result (λ r. IsSound r.book.file (state_of r.book).desk) }
+    ensures shown { IfOk result (λ r. AreListsShown (state_of r.book).desk.exec) }
     // How it ended.
     ensures drained { IfOk result
         (λ r. r.drain ≡ DrainEnd.Drained → IsDone (state_of r.book).desk) }
@@ -146,20 +115,37 @@ where
         (λ r. (number : ℕ) → r.drain ≡ DrainEnd.AdminFault number
         → (1 ≤ r.book.late) ⊎ (18446744073709551615 ≤ r.book.failures)) }
     // Copiers come back; and without memory to share the book, all as it was.
-    ensures count { IfOk result
-        (λ r. vec_len r.front.service.copiers ≡ vec_len front.service.copiers) }
-    ensures copiers_room { IfOk result
-        (λ r. vec_capacity front.service.copiers ≤ vec_capacity r.front.service.copiers) }
-    ensures handed_back { IfErr result (λ e. (e.book ≡ book) × (e.front ≡ front)) }
+    ensures back { IfOk result (λ r. IsWhole team.front.service r.team.front.service) }
+    ensures handed_back { IfErr result (λ e. (e.book ≡ book) × (e.team ≡ team)) }
 {
-    let (mut book, mut front, end) = share(rt, alloc, book, movers, planners, front, serving)?;
+    every_history();
+    let (mut book, team, end) = share(rt, alloc, book, team, movers, planners, serving)?;
     book.settle();
-    let drain = finish(rt, alloc, &mut book, &mut front.copier);
+    let Team {
+        front,
+        movers,
+        planners,
+    } = team;
+    let Front {
+        mut copier,
+        console,
+        service,
+    } = front;
+    let drain = finish(rt, alloc, &mut book, &mut copier);
     let _legal = book.journal();
     let _few = book.failures();
+    let front = Front {
+        copier,
+        console,
+        service,
+    };
     Ok(Live {
         book,
-        front,
+        team: Team {
+            front,
+            movers,
+            planners,
+        },
         end,
         drain,
     })

@@ -1,8 +1,6 @@
 // Each call of the outside that fails in turn, where a console asks for one move.
-use crate::links::{
-    TestCopier, TestLink, TestListener, copier_of, copiers_of, link_of, silent_listener, told,
-};
-use crate::services::{Outside, Over, Setting, run};
+use crate::links::{copier_of, copiers_of, link_of, silent_listener, told};
+use crate::services::{Outside, Setting, TestOver, run};
 use crate::texts::{ACCEPTED, REMOVAL, TWO, expect_text};
 use live_service::FrontEnd;
 use mover_rounds::DrainEnd;
@@ -178,11 +176,7 @@ const ROWS: [Row; 13] = [
     },
 ];
 
-fn run_row<R: Threads + Wait + Abort + Sync>(
-    rt: &R,
-    alloc: Global,
-    row: &Row,
-) -> Over<TestCopier, TestLink, TestListener> {
+fn run_row<R: Threads + Wait + Abort + Sync>(rt: &R, alloc: Global, row: &Row) -> TestOver {
     let setting = Setting {
         text: TWO,
         failing: row.failing.cluster,
@@ -199,7 +193,7 @@ fn run_row<R: Threads + Wait + Abort + Sync>(
     run(rt, alloc, setting, outside)
 }
 
-fn expect_row<R: Abort>(rt: &R, row: &Row, over: &Over<TestCopier, TestLink, TestListener>) {
+fn expect_row<R: Abort>(rt: &R, row: &Row, over: &TestOver) {
     assert_eq!(rt; over.end, FrontEnd::Console(row.console));
     assert_eq!(rt; over.drain, row.drain);
     assert_eq!(rt; over.book.failed_copies, row.failed_copies);

@@ -1,9 +1,6 @@
 // Two links on one book: what they ask stands in one history.
-use crate::links::{
-    TestCopier, TestLink, TestListener, copier_of, copiers_of, link_of, listener_of, silent_link,
-    told,
-};
-use crate::services::{Outside, Over, Setting, run};
+use crate::links::{copier_of, copiers_of, link_of, listener_of, silent_link, told};
+use crate::services::{Outside, Setting, TestOver, run};
 use crate::texts::{ACCEPTED, TWO};
 use live_service::FrontEnd;
 use rest_session::LinkEnd;
@@ -53,7 +50,7 @@ fn asked_by_both<R: Threads + Wait + Abort + Sync>(
     alloc: Global,
     one: &str,
     other: &str,
-) -> Over<TestCopier, TestLink, TestListener> {
+) -> TestOver {
     let setting = Setting {
         text: TWO,
         failing: &[],

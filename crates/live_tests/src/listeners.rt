@@ -2,10 +2,9 @@
 ghost use Rattle.test_fakes.specs.Handed.{AreFresh};
 
 use crate::links::{
-    TestCopier, TestLink, TestListener, copier_of, copiers_of, link_of, listener_of, silent_link,
-    told,
+    TestCopier, TestLink, copier_of, copiers_of, link_of, listener_of, silent_link, told,
 };
-use crate::services::{Outside, Over, Setting, run};
+use crate::services::{Outside, Setting, TestOver, run};
 use crate::texts::{ACCEPTED, AT_REST, KEYS, KEYS_ANSWERED, REMOVAL, STATE, TWO, expect_text};
 use cc_base::Sink;
 use cluster_gate::MemoryCopier;
@@ -160,11 +159,7 @@ fn links_of<R: Abort>(rt: &R, alloc: Global, asking: &[Asking]) -> Vec<TestLink>
     links
 }
 
-fn run_row<R: Threads + Wait + Abort + Sync>(
-    rt: &R,
-    alloc: Global,
-    row: &Row,
-) -> Over<TestCopier, TestLink, TestListener> {
+fn run_row<R: Threads + Wait + Abort + Sync>(rt: &R, alloc: Global, row: &Row) -> TestOver {
     let setting = Setting {
         text: TWO,
         failing: &[],
@@ -190,7 +185,7 @@ fn expect_copies<R: Abort>(rt: &R, workers: u32, copiers: &[TestCopier]) {
     }
 }
 
-fn expect_row<R: Abort>(rt: &R, row: &Row, over: &Over<TestCopier, TestLink, TestListener>) {
+fn expect_row<R: Abort>(rt: &R, row: &Row, over: &TestOver) {
     assert_eq!(rt; over.end, row.end);
     assert_eq!(rt; over.drain, DrainEnd::Drained);
     assert_eq!(rt; over.front.service.served.len(), row.served);

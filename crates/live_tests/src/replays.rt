@@ -19,6 +19,8 @@ pub struct BookEnd {
     pub replies: Vec<u8>,
     /// How many entries tell of a copy that failed.
     pub failed_copies: usize,
+    /// How many entries the journal has.
+    pub entries: usize,
 }
 
 // What a replay has learnt so far.
@@ -168,10 +170,12 @@ pub fn end_of<R: Threads + Sync + Abort>(
     let lists = lists_of(rt, alloc, &book);
     let replies = replayed(rt, alloc, text, book.journal(), &lists);
     let failed_copies = failed_copies(book.journal());
+    let entries = book.journal().len();
     let_go(book);
     BookEnd {
         lists,
         replies,
         failed_copies,
+        entries,
     }
 }

@@ -1,13 +1,15 @@
 // Whole services, each over a book of its own.
-ghost use Rattle.std.specs.Prelude.{◌≡◌, ◌≤◌, [], vec_len, vec_capacity};
-ghost use Rattle.live_service.specs.Asked.{links_asked, links_of};
+ghost use Rattle.std.specs.Prelude.{◌≡◌, ◌≤◌, ◌<◌, ◌+◌, option_map, vec_len};
+ghost use Rattle.live_service.specs.Asked.{IsReady, links_of};
 
 use crate::books::{TestCluster, book_of};
+use crate::links::{TestCopier, TestLink, TestListener};
 use crate::replays::{BookEnd, end_of};
 use cc_base::Link;
 use cluster_gate::Copier;
-use live_service::{Front, FrontEnd, Live, Service, Serving, run_live_service};
+use live_service::{Front, FrontEnd, Live, Of, Parties, Service, Serving, Team, run_live_service};
 use mover_rounds::DrainEnd;
+use mover_workers::LoopEnd;
 use net_links::Listener;
 use std::alloc::Global;
 use std::process::Abort;
@@ -40,19 +42,21 @@ pub struct Outside<K, L, N> {
 
 /// What came of a service.
 #[derive(Drop)]
-pub struct Over<K, L, N: Listener>
-where
-    N::Conn: Drop,
-{
-    pub front: Front<K, L, N>,
+pub struct Over<P: Parties> {
+    pub front: Front<P>,
+    pub movers: Vec<LoopEnd>,
+    pub planners: Vec<LoopEnd>,
     pub end: FrontEnd,
     pub drain: DrainEnd,
     pub book: BookEnd,
 }
 
+/// What came of one whose cluster, copiers, links and listener fail as told.
+pub type TestOver = Over<Of<TestCluster, TestCopier, TestLink, TestListener>>;
+
 // So many links at any address, if links are asked for.
 fn serving_of<R: Abort>(rt: &R, alloc: Global, links: Option<u32>) -> Option<Serving>
-    ensures { links_asked result ≡ links }
+    ensures { option_map (λ s. s.links) result ≡ links }
 {
     match links {
         Some(links) => {
@@ -72,18 +76,20 @@ fn links_in(serving: &Option<Serving>) -> u32
     }
 }
 
-// A front with room for so many links.
-fn front_of<K, L, N: Listener, R: Abort>(
+// The outside as a team, with room for what so many movers, planners and links bring back.
+fn team_of<K: Copier + Send + Drop, L: Link + Drop, N: Listener + Send + Drop, R: Abort>(
     rt: &R,
     alloc: Global,
     outside: Outside<K, L, N>,
+    movers: u32,
+    planners: u32,
     links: u32,
-) -> Front<K, L, N>
+) -> Team<Of<TestCluster, K, L, N>>
 where
-    N::Conn: Drop,
-    ensures copiers { vec_len result.service.copiers ≡ vec_len outside.copiers }
-    ensures none { result.service.served.items ≡ [] }
-    ensures room { links ≤ vec_capacity result.service.served }
+    N::Conn: Send + Drop,
+    requires copiers { movers + links ≤ vec_len outside.copiers }
+    requires few { planners + (movers + links) < 1048576 }
+    ensures ready { IsReady result 1048576 movers planners links }
 {
     let Outside {
         copiers,
@@ -92,7 +98,7 @@ where
         listener,
     } = outside;
     let served = Vec::with_capacity(alloc, links as usize).expect(rt, "memory");
-    Front {
+    let front = Front {
         copier,
         console,
         service: Service {
@@ -100,6 +106,11 @@ where
             copiers,
             served,
         },
+    };
+    Team {
+        front,
+        movers: Vec::with_capacity(alloc, movers as usize).expect(rt, "memory"),
+        planners: Vec::with_capacity(alloc, planners as usize).expect(rt, "memory"),
     }
 }
 
@@ -109,7 +120,12 @@ pub fn run<
     L: Link + Drop,
     N: Listener + Send + Drop,
     R: Threads + Wait + Abort + Sync,
->(rt: &R, alloc: Global, setting: Setting, outside: Outside<K, L, N>) -> Over<K, L, N>
+>(
+    rt: &R,
+    alloc: Global,
+    setting: Setting,
+    outside: Outside<K, L, N>,
+) -> Over<Of<TestCluster, K, L, N>>
 where
     N::Conn: Send + Drop,
 {
@@ -124,32 +140,36 @@ where
     let links = links_in(&serving);
     assert!(rt; movers <= MOST && planners <= MOST && links <= MOST);
     assert!(rt; (movers + links) as usize <= outside.copiers.len());
-    let front = front_of(rt, alloc, outside, links);
+    let team = team_of(rt, alloc, outside, movers, planners, links);
     let book = book_of(rt, alloc, text, failing);
-    match run_live_service(rt, alloc, book, movers, planners, front, serving) {
+    match run_live_service(rt, alloc, book, team, movers, planners, serving) {
         Ok(live) => ended(rt, alloc, text, live),
         Err(_) => panic!(rt; "no turn"),
     }
 }
 
 // What came of a service that is over.
-fn ended<K, L, N: Listener, R: Threads + Sync + Abort>(
+fn ended<P: Parties<Gate = TestCluster>, R: Threads + Sync + Abort>(
     rt: &R,
     alloc: Global,
     text: &str,
-    live: Live<TestCluster, K, L, N>,
-) -> Over<K, L, N>
-where
-    N::Conn: Drop,
-{
+    live: Live<P>,
+) -> Over<P> {
     let Live {
         book,
-        front,
+        team,
         end,
         drain,
     } = live;
+    let Team {
+        front,
+        movers,
+        planners,
+    } = team;
     Over {
         front,
+        movers,
+        planners,
         end,
         drain,
         book: end_of(rt, alloc, text, book),

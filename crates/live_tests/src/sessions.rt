@@ -1,12 +1,12 @@
 // Movers and planners beside a console.
-use crate::links::{link_of, silent_listener, told};
+use crate::links::{copier_of, copiers_of, link_of, silent_listener, told};
 use crate::services::{Outside, Over, Setting, run};
 use crate::texts::{ACCEPTED, ACCEPTED_AND_MOVING, FOUR, REMOVAL_OF_BOTH, STATE, expect_text};
 use cc_base::Joined;
-use live_service::FrontEnd;
+use live_service::{FrontEnd, Parties};
 use mover_rounds::DrainEnd;
-use net_links::Listener;
 use rest_session::LinkEnd;
+use std::alloc::Global;
 use std::process::Abort;
 use test_fakes::{PairGate, ReplyGate};
 
@@ -21,10 +21,7 @@ const REMOVING: Setting = Setting {
 
 // The console's requests are answered, nothing is left to do, and no copy waited in vain. Brokers 2
 // and 3 have the partitions. The replies are those of the replay.
-fn expect_removed<K, L, N: Listener, R: Abort>(rt: &R, over: &Over<K, L, N>, written: &[u8])
-where
-    N::Conn: Drop,
-{
+fn expect_removed<P: Parties, R: Abort>(rt: &R, over: &Over<P>, written: &[u8]) {
     assert_eq!(rt; over.end, FrontEnd::Console(LinkEnd::Ended));
     assert_eq!(rt; over.drain, DrainEnd::Drained);
     assert_eq!(rt; over.book.failed_copies, 0);
@@ -82,4 +79,36 @@ fn a_reply_is_written_while_a_copy_is_under_way(rt: HostRuntime) {
         assert_eq!(rt; gate.copies().len(), 2);
     }
     assert_eq!(rt; over.front.copier.copies().len(), 0);
+}
+
+// So many times how far the executor is.
+fn asks<R: Abort>(rt: &R, alloc: Global, times: u32) -> String {
+    let mut text = String::new(alloc);
+    for _ in 0..times {
+        text.push_str(STATE).expect(rt, "memory");
+    }
+    text
+}
+
+// Nothing changes while requests only look, so a worker without work looks when it begins and when
+// it is asked to close, each time for work and for a job, and rests between.
+#[test]
+fn idle_workers_make_few_entries(rt: HostRuntime) {
+    let alloc = rt.alloc();
+    let (looks, workers) = (200, 4);
+    let outside = Outside {
+        copiers: copiers_of(&rt, alloc, workers),
+        copier: copier_of(&rt, alloc, &[]),
+        console: link_of(&rt, alloc, asks(&rt, alloc, looks).as_str(), &[], &[]),
+        listener: silent_listener(&rt, alloc),
+    };
+    let setting = Setting {
+        text: FOUR,
+        movers: workers,
+        planners: workers,
+        ..REMOVING
+    };
+    let over = run(&rt, alloc, setting, outside);
+    assert_eq!(rt; over.end, FrontEnd::Console(LinkEnd::Ended));
+    assert!(rt; over.book.entries <= 260);
 }

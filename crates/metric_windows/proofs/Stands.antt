@@ -8,13 +8,18 @@ use Rattle.std.proofs.lemmas.List.Sums.{fold_push}
 use Rattle.std.proofs.lemmas.List.Elements.{filter-append, All-push, All-nil}
 use Rattle.metric_windows.specs.declared.cell.Cell.{Cell}
 use Rattle.plan_terms.specs.Loads.{IsLoads}
+use Rattle.plan_terms.specs.declared.cluster.Loads.{Loads}
 use Rattle.metric_windows.specs.Samples.{window_of, later, newest, is_past, is_in, samples_in, refusal, AcceptedAfter}
 use Rattle.plan_terms.specs.declared.settings.WindowRules.{WindowRules}
 use Rattle.plan_terms.specs.declared.settings.Sample.{Sample}
-use Rattle.metric_windows.specs.Tables.{Tables, AreTables, place, cell_of, tally_at, tally_in, tally_of, with_load, empty_cell, stored, after_sample}
+use Rattle.metric_windows.specs.Tables.{Tables, AreTables, place, cell_of, tally_at, tally_in, tally_of, with_load, empty_cell, stored}
 use Rattle.metric_windows.specs.StandsFor.{StandsFor}
 use Rattle.metric_windows.proofs.Numbers.{test_same, test_other, apart, same_place, is_ahead, ahead_later, past_later, ahead_far}
 use Rattle.metric_windows.proofs.Sums.{tally-push}
+
+-- the tables with one sample more
+abbrev pub after_sample : Tables → ℕ → ℕ → Loads → Tables
+after_sample t p w x = stored t p w (with_load (tally_in t p w) x)
 
 get_or-same : (n k : ℕ) (c : Cell) → get_or (replicate n c) k c ≡ c
 get_or-same zero k c = refl

@@ -84,10 +84,6 @@ stored t p w tally = record t {
   cells = slice_set t.cells (place t.rules.keep p w) (record { window = w; tally = tally });
 }
 
--- the tables with one sample more
-abbrev pub after_sample : Tables → ℕ → ℕ → Loads → Tables
-after_sample t p w x = stored t p w (with_load (tally_in t p w) x)
-
 -- one load more, where there is one
 abbrev pub with_some : Tally → Option Loads → Tally
 with_some t None = t

@@ -1,10 +1,11 @@
 -- What a call of a turn tells of its caller.
-use Rattle.std.proofs.Common.{◌≡◌, ℕ, zero, suc, ◌<◌, Bool, List, [], ◌∷◌, ◌++◌, length, take, refl, ap, sym, ◌∙◌, subst, append_assoc, append-nil, arith}
+use Rattle.std.proofs.Common.{◌≡◌, ℕ, zero, suc, ◌<◌, Bool, List, [], ◌∷◌, ◌++◌, length, take, refl, ap, sym, ◌∙◌, subst, append_assoc, append-nil, arith, length-append}
 use Rattle.std.specs.Prelude.{Option, Some, None, Result, Ok, Err, IfOk, IfErr}
 use Rattle.std.specs.List.{list_any}
 use Rattle.std.proofs.lemmas.Option.{slice_get_within}
 use Rattle.std.proofs.lemmas.List.{take-append-le, map-append}
 use Rattle.std.proofs.Math.Seq.{take-append_seam}
+use mathlib.Core.List.{IsPrefix}
 use Rattle.cluster_json.specs.File.{Meaning}
 use Rattle.exec_terms.specs.Machine.{next_work}
 use Rattle.exec_terms.specs.declared.replies.Given.{Given}
@@ -26,7 +27,7 @@ use Rattle.mover_rounds.specs.Jobs.{Fits, FitsJob, FitsWork}
 use Rattle.turn_book.specs.Known.{Made, Known as PassView, HasActed, HasLooked, IsRefused}
 use Rattle.turn_book.specs.Rule.{ArePlaced}
 use Rattle.control_core.specs.Books.{BookView}
-use Rattle.mover_workers.specs.Callers.{Belongs, CallerView, IsLater, IsSince, known_by_caller, known_by_pass}
+use Rattle.mover_workers.specs.Callers.{Belongs, CallerView, HasGrown, IsSince, known_by_caller, known_by_pass}
 use Rattle.mover_workers.specs.Steps.{HasRested}
 
 -- the replies have their forms
@@ -54,6 +55,16 @@ stable h t g (x ∷ xs) e p =
     let first : Entry → List Entry = λ y. y ∷ entries_of g xs in
     ap (λ (y : List Event). first (record { before = y; event = x.1 })) same ∙ ap (λ (y : List Entry). record { before = take x.0 h; event = x.1 } ∷ y) (stable h t g xs e (placed_behind h x xs p))
 
+-- nothing was added, and more may have been seen
+grown_by : (v w : PassView Meaning Event) → IsPrefix v.seen w.seen → w.mine ≡ v.mine → w.parts ≡ v.parts → HasGrown v w
+grown_by v w longer mine parts = record {
+  seen = longer;
+  parts = parts;
+  added = [];
+  mine = mine ∙ sym (append-nil v.mine);
+  rise = omega (arith, sym (ap length longer.1) ∙ length-append v.seen longer.0);
+}
+
 module _ (file : Meaning) (v w : PassView Meaning Event) (e : Event) (placed : ArePlaced v.seen v.mine) where
   pub has_asked : (r : Reply) → HasActed reply_after file v w e r → HasAsked (known_by_pass file v) (known_by_pass file w) e r
   has_asked r a =
@@ -71,11 +82,16 @@ module _ (file : Meaning) (v w : PassView Meaning Event) (e : Event) (placed : A
         blamed = a.last;
       }
 
-  pub later_acted : (r : Reply) → HasActed reply_after file v w e r → IsLater v w
-  later_acted r a = record {
+  pub grown_acted : (r : Reply) → HasActed reply_after file v w e r → HasGrown v w
+  grown_acted r a = record {
     seen = (a.between ++ e ∷ [], sym (append_assoc v.seen a.between (e ∷ [])) ∙ sym a.seen);
-    mine = ((length (v.seen ++ a.between), e) ∷ [], sym a.mine);
     parts = a.parts;
+    added = (length (v.seen ++ a.between), e) ∷ [];
+    mine = a.mine;
+    rise = (
+      omega (arith, length-append v.seen a.between),
+      omega (arith, ap length a.seen, length-append (v.seen ++ a.between) (e ∷ [])),
+    );
   }
 
   pub fits_acted : (r : Reply) → HasActed reply_after file v w e r → Fits e r
@@ -95,8 +111,8 @@ module _ (file : Meaning) (v w : PassView Meaning Event) (e : Event) (placed : A
     told = told f back r;
   }
 
-  pub later_refused : (f : StepFault) (back : Event) → IsRefused blame_of IsWant is_sure_after is_outward file v w e (f, back) → IsLater v w
-  later_refused f back r = record { seen = r.longer; mine = ([], append-nil v.mine ∙ sym r.mine); parts = r.parts }
+  pub grown_refused : (f : StepFault) (back : Event) → IsRefused blame_of IsWant is_sure_after is_outward file v w e (f, back) → HasGrown v w
+  grown_refused f back r = grown_by v w r.longer r.mine r.parts
 
   -- the same of what the call answered
   pub asked_act : (r : Result Reply (StepFault × Event)) → IfOk r (HasActed reply_after file v w e) → IfOk r (HasAsked (known_by_pass file v) (known_by_pass file w) e)
@@ -115,13 +131,13 @@ module _ (file : Meaning) (v w : PassView Meaning Event) (e : Event) (placed : A
   back_act (Ok y) a = tt
   back_act (Err y) a = a.returned
 
-  pub later_act : (r : Result Reply (StepFault × Event)) → IfOk r (HasActed reply_after file v w e) → IfErr r (IsRefused blame_of IsWant is_sure_after is_outward file v w e) → IsLater v w
-  later_act (Ok y) a b = later_acted y a
-  later_act (Err y) a b = later_refused y.0 y.1 b
+  pub grown_act : (r : Result Reply (StepFault × Event)) → IfOk r (HasActed reply_after file v w e) → IfErr r (IsRefused blame_of IsWant is_sure_after is_outward file v w e) → HasGrown v w
+  grown_act (Ok y) a b = grown_acted y a
+  grown_act (Err y) a b = grown_refused y.0 y.1 b
 
 -- a rest
-pub later_looked : (v w : PassView Meaning Event) → HasLooked v w → IsLater v w
-later_looked v w h = record { seen = h.longer; mine = ([], append-nil v.mine ∙ sym h.mine); parts = h.parts }
+pub grown_looked : (v w : PassView Meaning Event) → HasLooked v w → HasGrown v w
+grown_looked v w h = grown_by v w h.longer h.mine h.parts
 
 pub rested_looked : (file : Meaning) (v w : PassView Meaning Event) → ArePlaced v.seen v.mine → HasLooked v w → HasRested (known_by_pass file v) (known_by_pass file w)
 rested_looked file v w placed h = record {
@@ -141,8 +157,8 @@ by_pass {A} P turn b c pass after t p s a h =
     (subst (λ z. P (known_by_pass turn.start.file z) (known_by_caller c)) p
     (subst (λ (z : Made (BookView A)). P (known_by_pass z.start.file b.pass) (known_by_caller c)) t h)))
 
-pub later_by_pass : {A : Type 0} (b c : CallerView A) (pass after : PassView Meaning Event) → b.pass ≡ pass → IsSince b c → after ≡ c.pass → IsLater pass after
-later_by_pass b c pass after p s a = subst (λ z. IsLater z after) p (subst (λ z. IsLater b.pass z) (sym a) s.later)
+pub grown_by_pass : {A : Type 0} (b c : CallerView A) (pass after : PassView Meaning Event) → b.pass ≡ pass → IsSince b c → after ≡ c.pass → HasGrown pass after
+grown_by_pass b c pass after p s a = subst (λ z. HasGrown z after) p (subst (λ z. HasGrown b.pass z) (sym a) s.grown)
 
 pub own_by_pass : {A : Type 0} (turn : Made (BookView A)) (b c : CallerView A) (after : PassView Meaning Event) → b.turn ≡ turn → IsSince b c → Belongs c.turn after → Belongs turn after
 own_by_pass turn b c after t s o = subst (λ z. Belongs z after) (s.turn ∙ t) o

@@ -1,5 +1,5 @@
 -- A caller of a turn: what it knows, and what stays or grows in it.
-use Rattle.std.specs.Prelude.{◌≡◌, true}
+use Rattle.std.specs.Prelude.{◌≡◌, ◌≤◌, ℕ, suc, List, [], ◌∷◌, ◌++◌, length, true}
 use mathlib.Core.List.{IsPrefix}
 use Rattle.cluster_json.specs.File.{Meaning}
 use Rattle.core_terms.specs.History.{reply_after, is_sure_after}
@@ -35,7 +35,21 @@ pub record IsLater (v w : PassView Meaning Event) : Type 0 where
   pub mine : IsPrefix v.mine w.mine
   pub parts : w.parts ≡ v.parts
 
+-- places from `lo` on and below `hi`, which rise
+abbrev pub Rise : {E : Type 0} → ℕ → ℕ → List (ℕ × E) → Type 0
+Rise lo hi [] = lo ≤ hi
+Rise lo hi (x ∷ xs) = (lo ≤ x.0) × Rise (suc x.0) hi xs
+
+-- the same pass after a while in which it joined no other: it has the same parts and has seen no less, and its new entries stand behind what
+-- it had seen, in their order
+pub record HasGrown (v w : PassView Meaning Event) : Type 0 where
+  pub seen : IsPrefix v.seen w.seen
+  pub parts : w.parts ≡ v.parts
+  pub added : List (ℕ × Event)
+  pub mine : w.mine ≡ v.mine ++ added
+  pub rise : Rise (length v.seen) (length w.seen) added
+
 -- the same caller after a while
 pub record IsSince {A : Type 0} (b c : CallerView A) : Type 0 where
   pub turn : c.turn ≡ b.turn
-  pub later : IsLater b.pass c.pass
+  pub grown : HasGrown b.pass c.pass

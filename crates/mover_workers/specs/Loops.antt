@@ -61,7 +61,7 @@ abbrev pub CallsNoAdmin : LoopEnd → Type 0
 CallsNoAdmin (loop.AdminFault number) = ⊥
 CallsNoAdmin _ = Unit {0}
 
--- the admin's fault that ends a loop is the last one, and came in it
+-- the admin's fault that ends a loop is the last one, and came in it; where it ends otherwise, none came
 abbrev pub IsLoopCause : Known → Known → LoopEnd → Type 0
 IsLoopCause v w (loop.AdminFault number) = IsCause v w (AdminFault number)
-IsLoopCause v w _ = Unit {0}
+IsLoopCause v w _ = w.blamed ≡ v.blamed

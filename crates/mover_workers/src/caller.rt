@@ -1,10 +1,13 @@
 // One caller of a turn.
-ghost use Rattle.std.specs.Prelude.{◌≡◌};
-ghost use Rattle.mover_workers.specs.Callers.{Belongs};
+ghost use Rattle.std.specs.Prelude.{◌≡◌, ◌<◌};
+ghost use Rattle.mover_workers.specs.Callers.{Belongs, IsSince};
+ghost use Rattle.mover_workers.specs.Close.{IsClosed};
+ghost use Rattle.turn_book.specs.Known.{HasJoined, IsCut};
 
 use crate::rests::Rests;
 use cluster_gate::Admin;
 use control_core::Book;
+use core_laws::every_history;
 use core_terms::{Event, Reply, StepFault};
 use mover_rounds::Asker;
 use std::marker::Model;
@@ -28,6 +31,19 @@ impl<'a, R: Wait, A: Admin> Model for Caller<'a, R, A> {
     ghost invariant = { λ c. Belongs c.turn.now c.pass };
 }
 
+// Written by hand: a derived one would ask it of the admin, and no closure that holds a caller could
+// go to a thread.
+impl<'a, R: Wait, A: Admin> Drop for Caller<'a, R, A> {
+    fn drop(self) {
+        let Self {
+            rt: _,
+            turn: _,
+            pass,
+        } = self;
+        drop(pass);
+    }
+}
+
 impl<'a, R: Wait, A: Admin> Caller<'a, R, A> {
     /// Takes the pass, with which it asks the turn.
     pub fn new(rt: &'a R, turn: &'a Turn<Book<A>>, pass: Pass<Book<A>>) -> Caller<'a, R, A>
@@ -36,6 +52,43 @@ impl<'a, R: Wait, A: Admin> Caller<'a, R, A> {
         ensures pass { result.pass ≡ pass }
     {
         Caller { rt, turn, pass }
+    }
+
+    /// Gives one part to a new caller of the turn.
+    pub fn split(&mut self) -> Caller<'a, R, A>
+        requires parts { 1 < self.old.pass.parts }
+        ensures turn { (self.new.turn ≡ self.old.turn) × (result.turn ≡ self.old.turn) }
+        ensures cut { IsCut self.old.pass self.new.pass result.pass }
+    {
+        let pass = self.turn.split(&mut self.pass);
+        Caller {
+            rt: self.rt,
+            turn: self.turn,
+            pass,
+        }
+    }
+
+    /// Takes all of another caller of the turn.
+    pub fn join(&mut self, other: Caller<'a, R, A>)
+        requires turn { other.turn ≡ self.old.turn }
+        ensures turn { self.new.turn ≡ self.old.turn }
+        ensures joined { HasJoined self.old.pass other.entry.pass self.new.pass }
+        ensures own { Belongs other.entry.turn other.entry.pass }
+    {
+        self.turn.join(&mut self.pass, other.into_pass());
+    }
+
+    /// Asks Close, unless it was asked before.
+    pub fn close(&mut self)
+        ensures since { IsSince self.old self.new }
+        ensures closed { IsClosed self.old.pass self.new.pass }
+        ensures own { Belongs self.old.turn self.old.pass }
+    {
+        every_history();
+        match self.turn.act(self.rt, &mut self.pass, Event::Close) {
+            Ok(reply) => drop(reply),
+            Err(refused) => drop(refused),
+        }
     }
 
     /// The pass.

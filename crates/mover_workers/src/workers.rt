@@ -3,7 +3,7 @@ ghost use Rattle.std.specs.Prelude.{◌≡◌, true};
 ghost use Rattle.std.specs.List.{list_any};
 ghost use Rattle.core_laws.specs.Events.{is_close};
 ghost use Rattle.mover_rounds.specs.Made.{HasPumped, IsPumpCause, copier_of};
-ghost use Rattle.mover_workers.specs.Callers.{Belongs, IsLater, known_by_pass};
+ghost use Rattle.mover_workers.specs.Callers.{Belongs, HasGrown, known_by_pass};
 ghost use Rattle.mover_workers.specs.Loops.{CallsNoAdmin, HasMoved, HasPlanned, IsLoopCause};
 
 use crate::caller::Caller;
@@ -29,7 +29,7 @@ pub fn pump<A: Admin, K: Copier, R: Threads + Wait + Sync>(
 ) -> (Pass<Book<A>>, PumpEnd)
     requires own { Belongs turn.now pass }
     ensures own { Belongs turn.now result.0 }
-    ensures later { IsLater pass result.0 }
+    ensures grown { HasGrown pass result.0 }
     ensures pumped { HasPumped (known_by_pass turn.now.start.file pass)
         (known_by_pass turn.now.start.file result.0) (copier_of K.copies K.faults copier.old)
         (copier_of K.copies K.faults copier.new) steps result.1 }
@@ -51,7 +51,7 @@ pub fn planner_loop<A: Admin, R: Threads + Wait + Sync>(
 ) -> (Pass<Book<A>>, LoopEnd)
     requires own { Belongs turn.now pass }
     ensures own { Belongs turn.now result.0 }
-    ensures later { IsLater pass result.0 }
+    ensures grown { HasGrown pass result.0 }
     ensures planned { HasPlanned (known_by_pass turn.now.start.file pass)
         (known_by_pass turn.now.start.file result.0) result.1 }
     ensures no_admin { CallsNoAdmin result.1 }
@@ -74,7 +74,7 @@ pub fn mover_loop<A: Admin, K: Copier, R: Threads + Wait + Sync>(
 ) -> (Pass<Book<A>>, LoopEnd)
     requires own { Belongs turn.now pass }
     ensures own { Belongs turn.now result.0 }
-    ensures later { IsLater pass result.0 }
+    ensures grown { HasGrown pass result.0 }
     ensures moved { HasMoved (known_by_pass turn.now.start.file pass)
         (known_by_pass turn.now.start.file result.0) (copier_of K.copies K.faults copier.old)
         (copier_of K.copies K.faults copier.new) result.1 }

@@ -1,6 +1,7 @@
 // A listener and links over the system's sockets. Nothing is told of them. Each failure is counted,
 // by a count that stays at its greatest value.
-ghost use Rattle.std.specs.Prelude.{◌≡◌, None, refl, IfOk, IsErr, IsSome, OnErr, OnOk};
+ghost use Rattle.std.specs.Prelude.{◌≡◌, ◌≤◌, ◌<◌, None, refl, length, take, IfOk, IsErr, IsSome, OnErr, OnOk};
+ghost use Rattle.std.specs.Io.KnownBytes.{Appends, Consumes, IsAtEnd};
 ghost use Rattle.net_links.specs.Links.{IsFresh, with_link};
 ghost use Rattle.cc_base.specs.Outside.{HasCause};
 
@@ -40,7 +41,18 @@ impl<S: Read + Write> Source for HostLink<S> {
 
     ghost beside = { λ link. (link.sink_faults, None) };
 
-    fn read(&mut self, buf: &mut [u8]) -> Result<usize, Failed> {
+    fn read(&mut self, buf: &mut [u8]) -> Result<usize, Failed>
+        // The stream's next bytes, and none only at its end.
+        ensures stream { IfOk result
+            (λ n. Consumes (S.remaining self.old.stream) (S.remaining self.new.stream)
+            (take n buf.new)
+            × (n ≡ 0 → 0 < length buf.new → IsAtEnd (S.remaining self.new.stream))) }
+        // Each fault is counted once.
+        ensures cause { HasCause self.old.source_faults self.new.source_faults result }
+        ensures counted { OnOk result (self.new.source_faults ≡ self.old.source_faults) }
+        ensures fits { IfOk result (λ n. n ≤ length buf.new) }
+        ensures beside { self.new.sink_faults ≡ self.old.sink_faults }
+    {
         match self.stream.read(buf) {
             Ok(n) => Ok(n),
             Err(_) => {
@@ -58,7 +70,18 @@ impl<S: Read + Write> Sink for HostLink<S> {
 
     ghost beside = { λ link. (link.source_faults, None) };
 
-    fn write(&mut self, bytes: &[u8]) -> Result<usize, Failed> {
+    fn write(&mut self, bytes: &[u8]) -> Result<usize, Failed>
+        // So many bytes go to the stream.
+        ensures stream { IfOk result
+            (λ n. Appends (S.contents self.old.stream) (S.contents self.new.stream)
+            (take n bytes.now)) }
+        // Each fault is counted once.
+        ensures cause { HasCause self.old.sink_faults self.new.sink_faults result }
+        ensures counted { OnOk result (self.new.sink_faults ≡ self.old.sink_faults) }
+        ensures fits { IfOk result (λ n. n ≤ length bytes.now) }
+        ensures some { IfOk result (λ n. 0 < length bytes.now → 0 < n) }
+        ensures beside { self.new.source_faults ≡ self.old.source_faults }
+    {
         match self.stream.write(bytes) {
             Ok(n) if n > 0 || bytes.is_empty() => Ok(n),
             _ => {
@@ -115,10 +138,13 @@ impl<R: Net> Listener for HostListener<R> {
 
     ghost accepted = { λ _. None };
 
+    ghost heard = { λ _. None };
+
     /// Where the call fails, an earlier address is kept.
     fn listen(&mut self, address: &str) -> Result<(), Failed>
         ensures bound { OnOk result (IsSome self.new.listener) }
         ensures cause { HasCause self.old.faults self.new.faults result }
+        ensures counted { OnOk result (self.new.faults ≡ self.old.faults) }
         ensures accepted { ⟦<Self as Listener>⟧.accepted self.new
             ≡ ⟦<Self as Listener>⟧.accepted self.old }
     {
@@ -138,6 +164,7 @@ impl<R: Net> Listener for HostListener<R> {
     fn accept(&mut self) -> Result<HostLink<R::Stream>, Failed>
         ensures unbound { self.old.listener ≡ None → IsErr result }
         ensures cause { HasCause self.old.faults self.new.faults result }
+        ensures counted { OnOk result (self.new.faults ≡ self.old.faults) }
         ensures accepted { IfOk result
             (λ link. ⟦<Self as Listener>⟧.accepted self.new
             ≡ with_link (⟦<Self as Listener>⟧.accepted self.old)

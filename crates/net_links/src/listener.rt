@@ -1,6 +1,6 @@
 // The trait of what accepts links.
-ghost use Rattle.std.specs.Prelude.{◌≡◌, ℕ, List, Option, IfOk, OnErr};
-ghost use Rattle.cc_base.specs.Outside.{HasCause};
+ghost use Rattle.std.specs.Prelude.{◌≡◌, ℕ, List, Option, IfOk, OnErr, OnOk};
+ghost use Rattle.cc_base.specs.Outside.{HasCause, with_name};
 ghost use Rattle.net_links.specs.Links.{AcceptedLink, IsFresh, with_link};
 
 use cc_base::{Failed, Link};
@@ -16,6 +16,9 @@ pub trait Listener {
     /// The links that were accepted, in order, where they are told.
     ghost accepted: { Self → Option (List AcceptedLink) };
 
+    /// The addresses that it listened at, in order, where they are told.
+    ghost heard: { Self → Option (List (List ℕ)) };
+
     /// Listens at an address, `HOST:PORT`. The port 0 stands for one that the system chooses.
     ///
     /// # Errors
@@ -23,6 +26,9 @@ pub trait Listener {
     /// `Failed` where the call fails.
     fn listen(&mut self, address: &str) -> Result<(), Failed>
         ensures cause { HasCause (faults self.old) (faults self.new) result }
+        ensures counted { OnOk result (faults self.new ≡ faults self.old) }
+        ensures heard { OnOk result (heard self.new ≡ with_name (heard self.old) address.now) }
+        ensures unheard { OnErr result (heard self.new ≡ heard self.old) }
         ensures accepted { accepted self.new ≡ accepted self.old };
 
     /// The next link. Nothing was written to it yet.
@@ -32,6 +38,8 @@ pub trait Listener {
     /// `Failed` where the call fails. No link is accepted then.
     fn accept(&mut self) -> Result<Self::Conn, Failed>
         ensures cause { HasCause (faults self.old) (faults self.new) result }
+        ensures counted { OnOk result (faults self.new ≡ faults self.old) }
+        ensures heard { heard self.new ≡ heard self.old }
         ensures accepted { IfOk result
             (λ link. accepted self.new
             ≡ with_link (accepted self.old)

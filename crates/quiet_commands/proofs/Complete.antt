@@ -5,7 +5,7 @@ use Rattle.cc_base.specs.Outside.{HasRisen}
 use Rattle.cluster_json.specs.File.{Meaning}
 use Rattle.mover_rounds.specs.declared.drains.DrainEnd.{DrainEnd}
 use Rattle.mover_rounds.specs.declared.drains.DrainEnd.TheVariants as drain
-use Rattle.rest_session.specs.Answered.{HasEnded, raws_of, replies_of}
+use Rattle.rest_session.specs.Answered.{HasEnded, Piece, raws_of}
 use Rattle.rest_session.specs.declared.session.LinkEnd.{LinkEnd}
 use Rattle.rest_session.specs.declared.session.LinkEnd.TheVariants as link
 use Rattle.rest_stream.specs.Stream.{Requests, stopped}
@@ -88,19 +88,19 @@ was_cut link.WriteFault d e = absurd cc
 was_cut link.Memory d e = absurd cc
 
 -- whole requests are neither cut nor refused
-no_cut : (left old new : Option (List ℕ)) (raws : List RawRequest) (replies : List ℕ) (l : LinkEnd) → (l ≡ link.Cut) ⊎ (l ≡ link.Unframed) → HasEnded left old new raws replies l → HasWholeInput left → ⊥
-no_cut left old new raws replies link.Cut how h w = never_cut w.stream raws h.0 w.whole (inl h.1) (if_told left (λ s. Requests 0 s raws (stopped h.0)) w.stream w.told h.2.1.requests)
-no_cut left old new raws replies link.Unframed how h w = never_cut w.stream raws h.0 w.whole (inr h.1) (if_told left (λ s. Requests 0 s raws (stopped h.0)) w.stream w.told h.2.1.requests)
-no_cut left old new raws replies link.Ended (inl e) h w = cc
-no_cut left old new raws replies link.Ended (inr e) h w = cc
-no_cut left old new raws replies link.Closed (inl e) h w = cc
-no_cut left old new raws replies link.Closed (inr e) h w = cc
-no_cut left old new raws replies link.ReadFault (inl e) h w = cc
-no_cut left old new raws replies link.ReadFault (inr e) h w = cc
-no_cut left old new raws replies link.WriteFault (inl e) h w = cc
-no_cut left old new raws replies link.WriteFault (inr e) h w = cc
-no_cut left old new raws replies link.Memory (inl e) h w = cc
-no_cut left old new raws replies link.Memory (inr e) h w = cc
+no_cut : (left old new : Option (List ℕ)) (pieces : List Piece) (l : LinkEnd) → (l ≡ link.Cut) ⊎ (l ≡ link.Unframed) → HasEnded left old new pieces l → HasWholeInput left → ⊥
+no_cut left old new pieces link.Cut how h w = never_cut w.stream (raws_of pieces) h.0 w.whole (inl h.1) (if_told left (λ s. Requests 0 s (raws_of pieces) (stopped h.0)) w.stream w.told h.2.1.requests)
+no_cut left old new pieces link.Unframed how h w = never_cut w.stream (raws_of pieces) h.0 w.whole (inr h.1) (if_told left (λ s. Requests 0 s (raws_of pieces) (stopped h.0)) w.stream w.told h.2.1.requests)
+no_cut left old new pieces link.Ended (inl e) h w = cc
+no_cut left old new pieces link.Ended (inr e) h w = cc
+no_cut left old new pieces link.Closed (inl e) h w = cc
+no_cut left old new pieces link.Closed (inr e) h w = cc
+no_cut left old new pieces link.ReadFault (inl e) h w = cc
+no_cut left old new pieces link.ReadFault (inr e) h w = cc
+no_cut left old new pieces link.WriteFault (inl e) h w = cc
+no_cut left old new pieces link.WriteFault (inr e) h w = cc
+no_cut left old new pieces link.Memory (inl e) h w = cc
+no_cut left old new pieces link.Memory (inr e) h w = cc
 
 module _ (e : Edge) (m : Meaning) where
   well_done : (a : Asked) → IsWell a 0
@@ -143,7 +143,7 @@ module _ (e : Edge) (m : Meaning) where
   not_cut (check file trace ask) h w = h.1
   not_cut (apply file ask) h w = h.1
   not_cut (gen seed brokers partitions file ask) h w = h.1
-  not_cut (session file) h w = no_cut e.io.left e.io.written_before e.io.written_now (raws_of h.2.session.answered.pieces) (replies_of h.2.session.answered.pieces) h.0.link (was_cut h.0.link h.0.drain h.1) h.2.session.answered.ended w
+  not_cut (session file) h w = no_cut e.io.left e.io.written_before e.io.written_now h.2.session.answered.pieces h.0.link (was_cut h.0.link h.0.drain h.1) h.2.session.answered.ended w
 
 module _ (words : List (List ℕ)) (e : Edge) (asked : Asked) (given : IsWellGiven words e asked) where
   same : (a : Asked) → command words ≡ Some a → a ≡ asked

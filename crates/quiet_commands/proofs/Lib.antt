@@ -6,3 +6,4 @@ pub mod Traces
 pub mod Streams
 pub mod Complete
 pub mod Blameless
+pub mod Telling

@@ -1,10 +1,12 @@
 -- How a run ends: its status, and the line that tells it.
-use Rattle.std.specs.Prelude.{◌≡◌, ◌⊎◌, ℕ, List, [], ◌∷◌, ◌++◌, Option, codes}
+use Rattle.std.specs.Prelude.{◌≡◌, ◌⊎◌, ℕ, List, [], ◌∷◌, ◌++◌, Option, Some, None, codes}
 use Rattle.cc_base.specs.Outside.{HasRisen, IsPrefixOut, appended}
 use Rattle.cluster_json.specs.Faults.{Fault}
 use Rattle.cluster_json.specs.Texts.{fault_text}
 use Rattle.goal_set.specs.Kinds.{name_of}
 use Rattle.goal_set.specs.declared.kinds.GoalKind.{GoalKind}
+use Rattle.mover_rounds.specs.declared.drains.DrainEnd.{DrainEnd}
+use Rattle.mover_rounds.specs.declared.drains.DrainEnd.TheVariants as drain
 use Rattle.quiet_commands.specs.declared.ends.End.{End}
 use Rattle.quiet_commands.specs.declared.ends.End.TheVariants.{Done, Usage, Refused, GoalFailed, FileFault, ReadFault, WriteFault, NotDrained, Memory, InputCut, TraceRefused, ListenerFault}
 use Rattle.plan_terms.specs.Bytes.{line_feed}
@@ -38,6 +40,18 @@ line_of Memory = codes "want of memory" ++ line_feed ∷ []
 line_of InputCut = codes "input cut" ++ line_feed ∷ []
 line_of TraceRefused = codes "trace refused" ++ line_feed ∷ []
 line_of ListenerFault = codes "listener fault" ++ line_feed ∷ []
+
+-- the line behind it: that the drain failed, where the end doesn't say so
+abbrev pub line_behind : DrainEnd → End → List ℕ
+line_behind drain.Drained end = []
+line_behind drain.Memory Memory = []
+line_behind d NotDrained = []
+line_behind d end = codes "not drained" ++ line_feed ∷ []
+
+-- both, of a run that may have had a drain
+abbrev pub lines_of : Option DrainEnd → End → List ℕ
+lines_of None end = line_of end
+lines_of (Some d) end = line_of end ++ line_behind d end
 
 -- the line that tells a file's fault
 abbrev pub refusal_line : Fault → List ℕ

@@ -6,7 +6,9 @@ use Rattle.cluster_gate.specs.declared.memory.MemoryCluster.{MemoryCluster}
 use Rattle.cluster_json.specs.File.{Meaning}
 use Rattle.control_core.specs.Books.{BookView, opened, state_of}
 use Rattle.core_laws.specs.Alone.{IsDone}
+use Rattle.core_laws.specs.Events.{AreListsShown}
 use Rattle.core_terms.specs.History.{AreLegal}
+use Rattle.core_terms.specs.Sound.{IsSound}
 use Rattle.mover_rounds.specs.Asked.{entries_from}
 use Rattle.mover_rounds.specs.Made.{Copies, failures_of}
 use Rattle.mover_rounds.specs.declared.drains.DrainEnd.{DrainEnd}
@@ -49,14 +51,18 @@ pub record IsWholeInput (stream : List ℕ) : Type 0 where
   pub ends : Requests 0 stream raws closed ⊎ Requests 0 stream raws (stopped stop.End)
 
 -- a whole session over the cluster that a file means: a legal history, in which no copy failed, of the entries that answered the requests,
--- one Close, and the rounds of a drain. No reply tells a fault of the admin
+-- one Close, and the rounds of a drain; its state is sound, and shows each list as the old one, the new one or, in flight, both. No reply tells
+-- a fault of the admin
 pub record IsSessionOf (m : Meaning) (io : Console) (end : SessionEnd) : Type 0 where
   pub before : BookView MemoryCluster
   pub after : BookView MemoryCluster
   pub copies : Copies
   pub opening : before ≡ opened m before.admin
   pub session : IsSession before after no_copies copies io.left io.written_before io.written_now end
+  pub file_is : after.file ≡ m
   pub legal : AreLegal after.journal
+  pub sound : IsSound m (state_of after).desk
+  pub shown : AreListsShown (state_of after).desk.exec
   pub drained : end.drain ≡ drain.Drained → IsDone (state_of after).desk
   pub no_failure : failures_of (entries_from [] after.journal) ≡ 0
   pub no_admin_fault : AllByRecursion (λ p. fault_told p.told_is ≡ None) session.answered.pieces

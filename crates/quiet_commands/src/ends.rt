@@ -1,8 +1,9 @@
 // How a run ends.
 ghost use Rattle.std.specs.Prelude.{◌≡◌, ◌≤◌};
-ghost use Rattle.quiet_commands.specs.Ends.{IsTold, line_of, status_of};
+ghost use Rattle.quiet_commands.specs.Ends.{IsTold, line_behind, line_of, lines_of, status_of};
 
-use cc_base::{Sink, write_all_of};
+use cc_base::{Sink, WriteFault, write_all_of};
+use mover_rounds::DrainEnd;
 
 /// How a run ended.
 #[derive(Debug, Drop)]
@@ -63,15 +64,39 @@ fn line(end: &End) -> &[u8]
     }
 }
 
-/// Writes the end's line to the error stream, and answers its status. A fault of that stream
-/// changes nothing else.
-pub fn conclude<O: Sink>(err: &mut O, end: &End) -> u8
-    ensures status { result ≡ status_of end.now }
-    ensures told { IsTold (line_of end.now) (O.written err.old) (O.written err.new)
+// The line behind that of the end: that the drain failed, where the end doesn't say so.
+fn line_behind(end: &End, drain: DrainEnd) -> &'static [u8]
+    ensures { result.now ≡ line_behind drain end.now }
+{
+    match (drain, end) {
+        (DrainEnd::Drained, _) | (_, End::NotDrained) | (DrainEnd::Memory, End::Memory) => b"",
+        _ => b"not drained\n",
+    }
+}
+
+// Writes the end's line, and that of the drain behind it.
+fn tell<O: Sink>(err: &mut O, end: &End, drain: Option<DrainEnd>) -> Result<(), WriteFault>
+    ensures told { IsTold (lines_of drain end.now) (O.written err.old) (O.written err.new)
         (O.faults err.old) (O.faults err.new) }
     ensures later { O.faults err.old ≤ O.faults err.new }
 {
-    match write_all_of(err, line(end)) {
+    write_all_of(err, line(end))?;
+    match drain {
+        Some(drain) => write_all_of(err, line_behind(end, drain)),
+        None => Ok(()),
+    }
+}
+
+/// Writes the end's line to the error stream, and behind it `not drained` where there was a drain
+/// that failed and the end doesn't say so. Answers the end's status. A fault of that stream changes
+/// nothing else.
+pub fn conclude<O: Sink>(err: &mut O, end: &End, drain: Option<DrainEnd>) -> u8
+    ensures status { result ≡ status_of end.now }
+    ensures told { IsTold (lines_of drain end.now) (O.written err.old) (O.written err.new)
+        (O.faults err.old) (O.faults err.new) }
+    ensures later { O.faults err.old ≤ O.faults err.new }
+{
+    match tell(err, end, drain) {
         Ok(()) => {}
         Err(_) => {}
     }

@@ -320,5 +320,5 @@ pub fn run_quiet<R: Threads + Sync, F: Files, L: Link, O: Sink>(
     ensures err_later { O.faults err.old ≤ O.faults err.new }
 {
     let end = run(rt, alloc, words, files, console);
-    conclude(err, &end)
+    conclude(err, &end, None)
 }

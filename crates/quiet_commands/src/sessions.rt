@@ -12,6 +12,7 @@ use cc_base::Link;
 use cluster_gate::{MemoryCluster, MemoryCopier};
 use cluster_json::ClusterFile;
 use control_core::Book;
+use core_laws::every_history;
 use mover_rounds::DrainEnd;
 use rest_session::{LinkEnd, SessionEnd, run_session};
 use std::alloc::Global;
@@ -57,6 +58,7 @@ fn serve<L: Link, R: Threads + Sync>(
 {
     let mut copier = MemoryCopier::new(alloc);
     let ended = run_session(rt, alloc, book, &mut copier, console);
+    every_history();
     let _legal = book.journal();
     let _few = book.failures();
     ended_by(ended)

@@ -8,7 +8,7 @@ use Rattle.cc_base.specs.Outside.{HasRisen, IsPrefixOut, appended}
 use Rattle.cluster_gate.specs.declared.copier.ChunkCopy.{ChunkCopy}
 use Rattle.core_terms.specs.declared.events.Event.{Event}
 use Rattle.mover_rounds.specs.Asked.{Entry, Known, Rules}
-use Rattle.mover_rounds.specs.Made.{Copies}
+use Rattle.mover_rounds.specs.Made.{Copies, HasMade}
 use Rattle.mover_rounds.proofs.Later.{pumped_later}
 use Rattle.mover_rounds.proofs.Prefixes.{prefix_self}
 use Rattle.mover_rounds.proofs.Pumping.{made_both}
@@ -25,12 +25,22 @@ use Rattle.rest_stream.proofs.Leading.{leads_closed, leads_end, leads_on}
 use Rattle.rest_replies.specs.declared.told.Told.{Told}
 use Rattle.rest_replies.specs.declared.told.Told.TheVariants as told
 use Rattle.rest_session.specs.Calls.{IsCalled, IsDone, asked_by}
-use Rattle.rest_session.specs.Answered.{AreBlamed, ArePieces, AreSoFar, Begins, HasAnswered, HasEnded, HasServed, HasSoFar, IsAnswered, IsBlamed, IsPiece, IsRefused, IsServed, IsServing, IsStopped, Piece, end_of, fault_told, in_order, raws_of, replies_of}
+use Rattle.rest_session.specs.Answered.{AreBlamed, ArePieces, AreSoFar, Begins, HasAnswered, HasEnded, HasServed, IsAnswered, IsBlamed, IsCutIn, IsPiece, IsRefused, IsServed, IsStopped, Piece, end_of, fault_told, in_order, raws_of, replies_of}
 use Rattle.rest_session.specs.declared.calls.Asked.{Asked}
 use Rattle.rest_session.specs.declared.calls.Asked.TheVariants as asked
 use Rattle.rest_session.specs.declared.session.LinkEnd.{LinkEnd}
 use Rattle.rest_session.specs.declared.session.LinkEnd.TheVariants as end
 use Rattle.rest_session.proofs.Refusing.{nothing_more, refused_silent}
+
+-- these requests were answered, with their replies out
+abbrev pub HasSoFar : Known → Known → Copies → Copies → Option (List ℕ) → Option (List ℕ) → List RawRequest → Type 0
+HasSoFar v w k l old new raws = HasMade (AreSoFar old new raws v.rules w.seen v.blamed w.blamed) v w k l
+
+-- so many requests were read, their replies are out, and those of what is left follow
+pub record IsServing (left old before new : Option (List ℕ)) (given : ℕ) (v w : Known) (k l : Copies) : Type 0 where
+  pub raws : List RawRequest
+  pub leads : Leads left raws given before
+  pub did : HasSoFar v w k l old new raws
 
 -- what was called holds on when more is seen
 done_later : (r : Rules) (s t : List Event) → IsPrefix s t → (a : Asked) (x : Told) (m : List Entry) (c : List ChunkCopy) → IsDone r s a x m c → IsDone r t a x m c
@@ -74,14 +84,9 @@ told_both : (old mid new : Option (List ℕ)) (a b : List ℕ) → mid ≡ appen
 told_both None mid new a b p q = q ∙ ap (λ m. appended m b) p
 told_both (Some x) mid new a b p q = q ∙ (ap (λ m. appended m b) p ∙ ap Some (append_assoc x a b))
 
-take_behind : (a b : List ℕ) (n : ℕ) → take (length a + n) (a ++ b) ≡ a ++ take n b
-take_behind [] b n = ap (λ m. take m b) (zero-add n)
-take_behind (x ∷ a) b n =
-    let more : suc (length a) + n ≡ suc (length a + n) = omega arith in
-    ap (λ m. take m (x ∷ (a ++ b))) more ∙ ap (λ y. x ∷ y) (take_behind a b n)
-
-prefix_behind : (old mid new : Option (List ℕ)) (a b : List ℕ) → mid ≡ appended old a → IsPrefixOut mid new b → IsPrefixOut old new (a ++ b)
-prefix_behind old mid new a b p q = (length a + q.0, omega (arith, length-append a b, q.1), told_both old mid new a (take q.0 b) p q.2 ∙ ap (λ y. appended old y) (sym (take_behind a b q.0)))
+-- a reply that was cut, behind others that are out
+cut_behind : (old mid new : Option (List ℕ)) (a b : List ℕ) → mid ≡ appended old a → IsPrefixOut mid new b → IsCutIn old new a b
+cut_behind old mid new a b p q = (q.0, q.1, told_both old mid new a (take q.0 b) p q.2)
 
 module _ (r q : Rules) (s t : List Event) (e : q ≡ r) (p : IsPrefix s t) (raw : RawRequest) (before now : ℕ) where
   -- the pieces with that of the request, whatever was written
@@ -125,8 +130,11 @@ module _ (v u w : Known) (k j l : Copies) (old mid new : Option (List ℕ)) (raw
         are = more_pieces v.rules u.rules u.seen w.seen so_far.rules h.longer raw u.blamed w.blamed mid new (Err f) d.pieces a ca b cb d.are i;
         blamed = blamed_more v.blamed u.blamed w.blamed d.pieces x d.blamed i.blamed;
         ended = inl (
+          d.pieces,
+          x,
+          refl,
           subst (λ y. IfSome left (λ s. Begins s y)) same begins,
-          subst (λ y. IsPrefixOut old new y) (sym (in_order_more (λ y. y.reply) d.pieces x)) (prefix_behind old mid new (replies_of d.pieces) i.reply d.out i.written),
+          cut_behind old mid new (replies_of d.pieces) i.reply d.out i.written,
         );
       }) so_far h
 
@@ -161,22 +169,22 @@ served_closed v w k l left old new raws h c = record {
 }
 
 -- there is no further request
-ended_by : (left old new : Option (List ℕ)) (raws : List RawRequest) (replies : List ℕ) (why : Stop) → ((reply : List ℕ) × IsStopped left raws why reply × (new ≡ appended old (replies ++ reply))) → HasEnded left old new raws replies (end_of why)
-ended_by left old new raws replies stop.End h = (stop.End, refl, h)
-ended_by left old new raws replies stop.Truncated h = (stop.Truncated, refl, h)
-ended_by left old new raws replies stop.BadHead h = (stop.BadHead, refl, h)
-ended_by left old new raws replies stop.BadLength h = (stop.BadLength, refl, h)
-ended_by left old new raws replies stop.HeadTooLong h = (stop.HeadTooLong, refl, h)
-ended_by left old new raws replies stop.BodyTooLong h = (stop.BodyTooLong, refl, h)
-ended_by left old new raws replies stop.NoChunked h = (stop.NoChunked, refl, h)
-ended_by left old new raws replies stop.ReadFault h = (stop.ReadFault, refl, h)
-ended_by left old new raws replies stop.Memory h = (stop.Memory, refl, h)
+ended_by : (left old new : Option (List ℕ)) (pieces : List Piece) (why : Stop) → ((reply : List ℕ) × IsStopped left (raws_of pieces) why reply × (new ≡ appended old (replies_of pieces ++ reply))) → HasEnded left old new pieces (end_of why)
+ended_by left old new pieces stop.End h = (stop.End, refl, h)
+ended_by left old new pieces stop.Truncated h = (stop.Truncated, refl, h)
+ended_by left old new pieces stop.BadHead h = (stop.BadHead, refl, h)
+ended_by left old new pieces stop.BadLength h = (stop.BadLength, refl, h)
+ended_by left old new pieces stop.HeadTooLong h = (stop.HeadTooLong, refl, h)
+ended_by left old new pieces stop.BodyTooLong h = (stop.BodyTooLong, refl, h)
+ended_by left old new pieces stop.NoChunked h = (stop.NoChunked, refl, h)
+ended_by left old new pieces stop.ReadFault h = (stop.ReadFault, refl, h)
+ended_by left old new pieces stop.Memory h = (stop.Memory, refl, h)
 
-refused_so : (left old mid new : Option (List ℕ)) (raws : List RawRequest) (replies : List ℕ) (why : Stop) (e : LinkEnd) → IfSome left (λ s. Requests 0 s raws (stopped why)) → mid ≡ appended old replies → IsRefused mid new why e → HasEnded left old new raws replies e
-refused_so left old mid new raws replies why e stops out (inl h) =
-    subst (λ x. HasEnded left old new raws replies x) (sym h.0) (inr (why, h.1.0, record { requests = stops; reply_is = h.1.1 }, prefix_behind old mid new replies h.1.0 out h.1.2))
-refused_so left old mid new raws replies why e stops out (inr h) =
-    subst (λ x. HasEnded left old new raws replies x) (sym h.0) (ended_by left old new raws replies why (h.1.0, record { requests = stops; reply_is = h.1.1 }, told_both old mid new replies h.1.0 out h.1.2))
+refused_so : (left old mid new : Option (List ℕ)) (pieces : List Piece) (why : Stop) (e : LinkEnd) → IfSome left (λ s. Requests 0 s (raws_of pieces) (stopped why)) → mid ≡ appended old (replies_of pieces) → IsRefused mid new why e → HasEnded left old new pieces e
+refused_so left old mid new pieces why e stops out (inl h) =
+    subst (λ x. HasEnded left old new pieces x) (sym h.0) (inr (why, h.1.0, record { requests = stops; reply_is = h.1.1 }, cut_behind old mid new (replies_of pieces) h.1.0 out h.1.2))
+refused_so left old mid new pieces why e stops out (inr h) =
+    subst (λ x. HasEnded left old new pieces x) (sym h.0) (ended_by left old new pieces why (h.1.0, record { requests = stops; reply_is = h.1.1 }, told_both old mid new (replies_of pieces) h.1.0 out h.1.2))
 
 pub served_refused : (v w : Known) (k l : Copies) (left old mid new : Option (List ℕ)) (raws : List RawRequest) (why : Stop) (e : LinkEnd) → HasSoFar v w k l old mid raws → IfSome left (λ s. Requests 0 s raws (stopped why)) → IsRefused mid new why e → HasServed v w k l left old new e
 served_refused v w k l left old mid new raws why e h stops is = record {
@@ -188,7 +196,7 @@ served_refused v w k l left old mid new raws why e h stops is = record {
     pieces = h.is.pieces;
     are = h.is.are;
     blamed = h.is.blamed;
-    ended = refused_so left old mid new (raws_of h.is.pieces) (replies_of h.is.pieces) why e (subst (λ y. IfSome left (λ s. Requests 0 s y (stopped why))) h.is.raws_are stops) h.is.out is;
+    ended = refused_so left old mid new h.is.pieces why e (subst (λ y. IfSome left (λ s. Requests 0 s y (stopped why))) h.is.raws_are stops) h.is.out is;
   };
   failed = h.failed;
   rules = h.rules;

@@ -1,5 +1,5 @@
 -- The requests of a link, their own entries and their replies.
-use Rattle.std.specs.Prelude.{◌≡◌, ℕ, List, [], ◌∷◌, ◌++◌, ◌⊎◌, map, Option, Some, None, IfSome, Result, Ok, Err}
+use Rattle.std.specs.Prelude.{◌≡◌, ◌≤◌, ℕ, List, [], ◌∷◌, ◌++◌, ◌⊎◌, length, map, take, Option, Some, None, IfSome, Result, Ok, Err}
 use Rattle.std.specs.List.{AllByRecursion}
 use Rattle.cc_base.specs.Outside.{HasRisen, IsPrefixOut, appended}
 use Rattle.cluster_gate.specs.declared.copier.ChunkCopy.{ChunkCopy}
@@ -10,7 +10,6 @@ use Rattle.mover_rounds.specs.Asked.{Entry, Known, Rules}
 use Rattle.mover_rounds.specs.Made.{Copies, HasMade}
 use Rattle.rest_parse.specs.Calls.{meaning}
 use Rattle.rest_stream.specs.Stream.{Requests, closed, stopped}
-use Rattle.rest_stream.specs.Whole.{Leads}
 use Rattle.rest_stream.specs.declared.raw.RawRequest.{RawRequest}
 use Rattle.rest_stream.specs.declared.raw.Stop.{Stop}
 use Rattle.rest_stream.specs.declared.raw.Stop.TheVariants as stop
@@ -104,21 +103,25 @@ pub record IsStopped (left : Option (List ℕ)) (raws : List RawRequest) (why : 
   pub requests : IfSome left (λ stream. Requests 0 stream raws (stopped why))
   pub reply_is : IsLast why reply
 
--- the end of a link, by what was read of its stream and what was written: a request that closes; a write that failed within the replies,
--- or within the last one; or the reason why the stream had no further request
-abbrev pub HasEnded : Option (List ℕ) → Option (List ℕ) → Option (List ℕ) → List RawRequest → List ℕ → LinkEnd → Type 0
-HasEnded left old new raws replies end.Closed = IfSome left (λ stream. Requests 0 stream raws closed) × (new ≡ appended old replies)
-HasEnded left old new raws replies end.WriteFault =
-    (IfSome left (λ stream. Begins stream raws) × IsPrefixOut old new replies)
-    ⊎ ((why : Stop) × (reply : List ℕ) × IsStopped left raws why reply × IsPrefixOut old new (replies ++ reply))
-HasEnded left old new raws replies e = (why : Stop) × (end_of why ≡ e) × ((reply : List ℕ) × IsStopped left raws why reply × (new ≡ appended old (replies ++ reply)))
+-- these bytes were written whole, and of the last no more than a front
+abbrev pub IsCutIn : Option (List ℕ) → Option (List ℕ) → List ℕ → List ℕ → Type 0
+IsCutIn old new whole last = (n : ℕ) × (n ≤ length last) × (new ≡ appended old (whole ++ take n last))
+
+-- the end of a link, by what was read of its stream and what was written: a request that closes; a write that failed in the reply to the
+-- last request, behind which none was carried out, or in that to the reason why there was none; or this reason
+abbrev pub HasEnded : Option (List ℕ) → Option (List ℕ) → Option (List ℕ) → List Piece → LinkEnd → Type 0
+HasEnded left old new pieces end.Closed = IfSome left (λ stream. Requests 0 stream (raws_of pieces) closed) × (new ≡ appended old (replies_of pieces))
+HasEnded left old new pieces end.WriteFault =
+    ((front : List Piece) × (p : Piece) × (pieces ≡ front ++ p ∷ []) × IfSome left (λ stream. Begins stream (raws_of pieces)) × IsCutIn old new (replies_of front) p.reply)
+    ⊎ ((why : Stop) × (reply : List ℕ) × IsStopped left (raws_of pieces) why reply × IsCutIn old new (replies_of pieces) reply)
+HasEnded left old new pieces e = (why : Stop) × (end_of why ≡ e) × ((reply : List ℕ) × IsStopped left (raws_of pieces) why reply × (new ≡ appended old (replies_of pieces ++ reply)))
 
 -- the pieces of a link that ended so, with the number of the admin's last fault before and after them
 pub record IsServed (left old new : Option (List ℕ)) (rules : Rules) (seen : List Event) (before now : ℕ) (e : LinkEnd) (made : List Entry) (copies : List ChunkCopy) : Type 0 where
   pub pieces : List Piece
   pub are : ArePieces rules seen pieces made copies
   pub blamed : AreBlamed before now pieces
-  pub ended : HasEnded left old new (raws_of pieces) (replies_of pieces) e
+  pub ended : HasEnded left old new pieces e
 
 -- the requests of a link were answered, each by its own entries, up to its end
 abbrev pub HasServed : Known → Known → Copies → Copies → Option (List ℕ) → Option (List ℕ) → Option (List ℕ) → LinkEnd → Type 0
@@ -149,9 +152,6 @@ pub record AreSoFar (old new : Option (List ℕ)) (raws : List RawRequest) (rule
   pub raws_are : raws ≡ raws_of pieces
   pub out : new ≡ appended old (replies_of pieces)
 
-abbrev pub HasSoFar : Known → Known → Copies → Copies → Option (List ℕ) → Option (List ℕ) → List RawRequest → Type 0
-HasSoFar v w k l old new raws = HasMade (AreSoFar old new raws v.rules w.seen v.blamed w.blamed) v w k l
-
 -- a reply to what is told was written
 abbrev pub IsReplied : {E : Type 0} → Told → Option (List ℕ) → Option (List ℕ) → Result (Unit {0}) E → Type 0
 IsReplied t old new result = (reply : List ℕ) × IsReply t reply × IsWritten old new result reply
@@ -161,9 +161,3 @@ abbrev pub IsRefused : Option (List ℕ) → Option (List ℕ) → Stop → Link
 IsRefused old new why e =
     ((e ≡ end.WriteFault) × ((reply : List ℕ) × IsLast why reply × IsPrefixOut old new reply))
     ⊎ ((e ≡ end_of why) × ((reply : List ℕ) × IsLast why reply × (new ≡ appended old reply)))
-
--- so many requests were read, their replies are out, and those of what is left follow
-pub record IsServing (left old before new : Option (List ℕ)) (given : ℕ) (v w : Known) (k l : Copies) : Type 0 where
-  pub raws : List RawRequest
-  pub leads : Leads left raws given before
-  pub did : HasSoFar v w k l old new raws

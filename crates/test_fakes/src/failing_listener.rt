@@ -1,6 +1,6 @@
 // A listener that fails at chosen calls.
-ghost use Rattle.std.specs.Prelude.{◌≡◌, ◌+◌, IfOk, IsErr, OnErr};
-ghost use Rattle.cc_base.specs.Outside.{HasCause};
+ghost use Rattle.std.specs.Prelude.{◌≡◌, ◌+◌, IfOk, IsErr, OnErr, OnOk};
+ghost use Rattle.cc_base.specs.Outside.{HasCause, with_name};
 ghost use Rattle.cluster_gate.specs.Failing.{CountsCall, IsListed};
 ghost use Rattle.net_links.specs.Links.{IsFresh, with_link};
 
@@ -47,12 +47,20 @@ impl<L: Listener> Listener for FailingListener<L> {
 
     ghost accepted = { λ f. L.accepted f.inner };
 
+    ghost heard = { λ f. L.heard f.inner };
+
     fn listen(&mut self, address: &str) -> Result<(), Failed>
         ensures fails { IsListed self.old.calls → IsErr result }
         ensures kept { IsListed self.old.calls → self.new.inner ≡ self.old.inner }
         ensures counts { CountsCall self.old.calls self.new.calls }
         ensures cause { HasCause (⟦<Self as Listener>⟧.faults self.old)
             (⟦<Self as Listener>⟧.faults self.new) result }
+        ensures counted { OnOk result
+            (⟦<Self as Listener>⟧.faults self.new ≡ ⟦<Self as Listener>⟧.faults self.old) }
+        // A listed call hears nothing.
+        ensures heard { OnOk result
+            (L.heard self.new.inner ≡ with_name (L.heard self.old.inner) address.now) }
+        ensures unheard { OnErr result (L.heard self.new.inner ≡ L.heard self.old.inner) }
         ensures accepted { L.accepted self.new.inner ≡ L.accepted self.old.inner }
     {
         if self.calls.next_fails() {
@@ -69,6 +77,9 @@ impl<L: Listener> Listener for FailingListener<L> {
         ensures counts { CountsCall self.old.calls self.new.calls }
         ensures cause { HasCause (⟦<Self as Listener>⟧.faults self.old)
             (⟦<Self as Listener>⟧.faults self.new) result }
+        ensures counted { OnOk result
+            (⟦<Self as Listener>⟧.faults self.new ≡ ⟦<Self as Listener>⟧.faults self.old) }
+        ensures heard { L.heard self.new.inner ≡ L.heard self.old.inner }
         // What was accepted, which is fresh; a failure accepts nothing.
         ensures accepted { IfOk result
             (λ link. L.accepted self.new.inner

@@ -1,5 +1,5 @@
 // A listener over links in memory. It tells what it handed out.
-ghost use Rattle.std.specs.Prelude.{◌≡◌, ◌↔◌, [], ◌∷◌, ◌++◌, Some, map, IfOk, IsErr, IsOk, OnErr};
+ghost use Rattle.std.specs.Prelude.{◌≡◌, ◌↔◌, [], ◌∷◌, ◌++◌, None, Some, map, IfOk, IsErr, IsOk, OnErr, OnOk};
 ghost use Rattle.std.specs.Vec.Iter.{into_iter_items};
 ghost use Rattle.cc_base.specs.Outside.{HasCause, HasRisen};
 ghost use Rattle.net_links.specs.Links.{IsFresh, with_link};
@@ -47,6 +47,8 @@ impl<C: Link> Listener for MemoryListener<C> {
         (map (accepted_link C.Source.faults C.Sink.faults C.left)
         (handed_out m.given.value.items (into_iter_items m.waiting))) };
 
+    ghost heard = { λ _. None };
+
     /// Never fails. Whatever the address, the same links wait.
     fn listen(&mut self, address: &str) -> Result<(), Failed>
         ensures never { IsOk result }
@@ -64,6 +66,7 @@ impl<C: Link> Listener for MemoryListener<C> {
             (λ link. into_iter_items self.old.waiting ≡ link ∷ into_iter_items self.new.waiting) }
         ensures none { IsErr result ↔ (into_iter_items self.old.waiting ≡ []) }
         ensures cause { HasCause self.old.faults self.new.faults result }
+        ensures counted { OnOk result (self.new.faults ≡ self.old.faults) }
         ensures accepted { IfOk result
             (λ link. ⟦<Self as Listener>⟧.accepted self.new
             ≡ with_link (⟦<Self as Listener>⟧.accepted self.old)

@@ -1,23 +1,28 @@
-use Rattle.std.proofs.Common.{◌∙◌, refl, inl, inr}
+use Rattle.std.proofs.Common.{◌≡◌, ◌∙◌, None, refl, inl, inr, length, map, arith}
+use Rattle.std.proofs.lemmas.List.{length-map}
 use Rattle.quiet_commands.specs.declared.ends.End.TheVariants as end
 use Rattle.cc_program.proofs.entry.run_threads.Goals as goal
 
 pub returns-in_default : goal.returns-in_default
-returns-in_default g c = (end.Memory, c.exit_code.ensures ∙ c.conclude.ensures.status, c.conclude.ensures.told, inl (refl, refl))
+returns-in_default g c = (end.Memory, None, c.exit_code.ensures ∙ c.conclude.ensures.status, c.conclude.ensures.told, inl (refl, refl, refl))
 
 pub returns : goal.returns
 returns g c =
-    let ended = c.run_live-ended.ensures.ended in (
+    let run = c.run_live-ended in
+    let ended = run.ensures.ended in
+    let long : length c.in-Ok.copiers.items ≡ 129 = omega (arith, c.in-Ok.ensures) in (
       ended.0,
+      run.result.left.drain,
       c.exit_code-2.ensures ∙ ended.1,
       ended.3,
       inr (record {
-        given = record { copiers = c.in-Ok.copiers; console = c.args.console; listener = c.args.listener };
+        given = _;
         console_is = refl;
-        listener_is = refl;
-        enough = c.in-Ok.ensures;
+        net_is = refl;
+        enough = length-map _ _ ∙ long;
         cluster = c.new-admin.result;
-        left = c.run_live-ended.result.left;
+        left = run.result.left;
         leaves = ended.2;
+        drain_is = refl;
       }),
     )

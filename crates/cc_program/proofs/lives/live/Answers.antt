@@ -1,62 +1,71 @@
-use Rattle.std.proofs.Common.{rules, ◌≡◌, ◌∙◌, ℕ, ◌+◌, Option, map, ap, sym, subst, refl, inl, inr}
+use Rattle.std.proofs.Common.{rules, ◌≡◌, ◌∙◌, ℕ, ◌+◌, Bool, ◌||◌, List, ap, sym, subst, refl, inl, inr}
 use Rattle.std.specs.List.{insert, list_any}
-use Rattle.live_service.specs.Live.{IsLive}
-use Rattle.live_service.specs.Views.{link_of, net_of, served_of}
+use Rattle.cluster_json.specs.File.{Meaning}
+use Rattle.control_core.specs.Books.{state_of}
+use Rattle.core_terms.specs.Sound.{IsSound}
+use Rattle.live_service.specs.Views.{LinkView, NetView, ServedView, link_of}
+use Rattle.live_service.specs.declared.service.Served.{Served}
 use Rattle.load_model.proofs.Listed.{list_any-map}
-use Rattle.mover_rounds.specs.Made.{copier_of}
-use Rattle.cc_program.specs.Lives.{copiers_before, crew_told, ended_live, is_want, outside_of, wanted, with_copier}
-use Rattle.cc_program.proofs.Inserted.{links_counted, links_told, put_back, put_in, taken_out}
+use Rattle.mover_rounds.specs.Made.{Copies}
+use Rattle.cc_program.specs.Lives.{any_want, copiers_before, crew_told, ended_live, is_loop_want, is_want, wanted}
+use Rattle.cc_program.specs.Outside.{OutsideView}
+use Rattle.cc_program.proofs.Inserted.{links_counted}
 use Rattle.cc_program.proofs.lives.live.Goals as goal
-use Rattle.cc_program.proofs.lives.live.Goals.{in-Ok, in-Err}
 
-pub returns-clause-over : goal.returns-clause-over
-returns-clause-over g c =
-    let view = copier_of g.K.Copier.copies g.K.Copier.faults in
-    let sees = outside_of view (link_of g.L.Source.left g.L.Sink.written g.L.Source.faults g.L.Sink.faults) (net_of g.N.Listener.faults g.N.Listener.accepted) in
-    let served = served_of (link_of g.N.Conn.Source.left g.N.Conn.Sink.written g.N.Conn.Source.faults g.N.Conn.Sink.faults) in
-    let made = c.match-run_live_service.book in
-    let all = c.args.outside.copiers.items in
-    let rest = c.remove-copier.new.self.items in
-    let own = c.remove-copier.result in
+abbrev outside_of : List Copies → LinkView → NetView → OutsideView
+outside_of copiers console net = record { copiers = copiers; console = console; net = net }
+
+pub returns-in-Ok-clause-over : goal.returns-in-Ok-clause-over
+returns-in-Ok-clause-over g c = λ outside h.
+    let live = c.in-Ok.live in
     let crew = crew_told c.args.crew in
-    let at : ℕ = c.copiers_before-at.result in
-    let at_is : at ≡ copiers_before crew = c.copiers_before-at.ensures ∙ ap (λ (n : ℕ). c.args.crew.workers.movers + n) (links_counted c.args.crew.serving) in
-    let put : c.insert.new.self.items ≡ insert made.1.service.copiers.items at made.1.copier = search rules in
-    elim c.match-run_live_service.branch [
-      | in-Ok w ↦
-          let l = w.in-Ok.live in
-          let put_here = rw w.book-is at put in
-          rw w.book-is (inr (
-            l.end,
-            l.drain,
-            w.ended_live-ended.ensures ∙ ap (λ b. ended_live l.end b l.drain) (w.any_want-want.ensures ∙ (ap (list_any (λ x. wanted x.end)) w.deref.ensures.value ∙ sym (list_any-map is_want served l.front.service.served.items))),
-            record {
-              b = c.args.book;
-              opening = c.requires.opened;
-              workers_old = map view rest;
-              workers_new = map view l.front.service.copiers.items;
-              before = view own;
-              after = view l.front.copier;
-              old_are = subst (λ (n : ℕ). map view all ≡ insert (map view rest) n (view own)) at_is (taken_out view all rest at own (search rules) c.remove-copier.ensures.value c.remove-copier.ensures.items);
-              new_are = subst (λ (n : ℕ). map view c.insert.new.self.items ≡ insert (map view l.front.service.copiers.items) n (view l.front.copier)) at_is (put_in view l.front.service.copiers.items c.insert.new.self.items at l.front.copier put_here);
-              live = subst (λ (asked : Option ℕ). IsLive g.A.Admin.faults asked c.args.book l.book (map view rest) (map view l.front.service.copiers.items) crew.movers crew.planners
-                  (with_copier (view own) (sees all c.args.outside.console c.args.outside.listener))
-                  (with_copier (view l.front.copier) (sees c.insert.new.self.items l.front.console l.front.service.listener))
-                  (map served l.front.service.served.items) l.end l.drain) (links_told c.args.crew.serving) w.in-Ok.ensures.live;
-              legal = w.in-Ok.ensures.legal;
-              lists = w.in-Ok.ensures.lists;
-              drained = w.in-Ok.ensures.drained;
-              late = w.in-Ok.ensures.late;
-            },
-          ))
-      | in-Err w ↦
-          let back = w.in-Err.ensures.handed_back in
-          let put_here = rw w.book-is at put in
-          let put_back_here = rw back.1 at put_here in
-          let same : c.insert.new.self.items ≡ all = put_back_here ∙ (ap (λ xs. insert xs at own) c.remove-copier.ensures.items ∙ sym (put_back all at own (search rules) c.remove-copier.ensures.value)) in
-          rw w.book-is (rw back.0 (rw back.1 (inl (
-            refl,
-            c.requires.opened,
-            (ap (λ xs. sees xs c.args.outside.console c.args.outside.listener) same, ap (map served) c.requires.none),
-          ))))
-    ]
+    let at_is : c.copiers_before-at.result ≡ copiers_before crew = c.copiers_before-at.ensures ∙ ap (λ (n : ℕ). c.args.crew.workers.movers + n) (links_counted c.args.crew.serving) in
+    let served : Served g.row.N-Conn.Denot → ServedView = λ x. record { link = link_of g.N.Conn.Source.left g.N.Conn.Sink.written g.N.Conn.Source.faults g.N.Conn.Sink.faults x.link; end = x.end } in
+    let inside = c.left.inside in
+    let loops : Bool = list_any is_loop_want inside.movers.items || list_any is_loop_want inside.planners.items in
+    let want : c.any_want-want.result ≡ (list_any (λ (x : Served g.row.N-Conn.Denot). wanted x.end) inside.links.items || loops) = rw (c.deref.ensures.value, c.deref-in-Ok.ensures.value, c.deref-in-Ok-2.ensures.value) at c.any_want-want.ensures in
+    let want_is : c.any_want-want.result ≡ any_want c.left_of-left.result = rw (← c.left.view_is) (want ∙ ap (λ (b : Bool). b || loops) (sym (list_any-map is_want served inside.links.items))) in
+    let end_is : c.ended_live.result ≡ ended_live live.end (any_want c.left_of-left.result) live.drain = c.ended_live.ensures ∙ ap (λ (b : Bool). ended_live live.end b live.drain) want_is in
+    rw c.left_of-left.ensures (inr (
+      live.end,
+      live.drain,
+      refl,
+      rw c.left_of-left.ensures at end_is,
+      record {
+        b = c.args.book;
+        opening = c.requires.opened;
+        given = c.args.team;
+        given_is = h;
+        back = live.team;
+        back_is = record {
+          team = record { copiers = ap (λ (n : ℕ). insert live.team.front.service.copiers n live.team.front.copier) at_is; console = refl; net = refl };
+          links = refl;
+          movers = refl;
+          planners = refl;
+        };
+        live = c.in-Ok.ensures.live;
+        legal = c.in-Ok.ensures.legal;
+        lists = c.in-Ok.ensures.lists;
+        sound = subst (λ (m : Meaning). IsSound m (state_of live.book).desk) c.in-Ok.ensures.file c.in-Ok.ensures.sound;
+        shown = c.in-Ok.ensures.shown;
+        drained = c.in-Ok.ensures.drained;
+        late = c.in-Ok.ensures.late;
+      },
+    ))
+
+pub returns-in-Err-clause-over : goal.returns-in-Err-clause-over
+returns-in-Err-clause-over g c = λ outside h.
+    let back = c.in-Err.ensures.handed_back in
+    let front = c.args.team.front in
+    let crew = crew_told c.args.crew in
+    let at_is : c.copiers_before-at.result ≡ copiers_before crew = c.copiers_before-at.ensures ∙ ap (λ (n : ℕ). c.args.crew.workers.movers + n) (links_counted c.args.crew.serving) in
+    let copiers : insert front.service.copiers c.copiers_before-at.result front.copier ≡ outside.copiers = ap (λ (n : ℕ). insert front.service.copiers n front.copier) at_is ∙ sym h.copiers in
+    let same = ap (λ (k : List Copies). outside_of k front.console front.service.net) copiers ∙ (ap (λ (x : LinkView). outside_of outside.copiers x front.service.net) (sym h.console) ∙ ap (λ (x : NetView). outside_of outside.copiers outside.console x) (sym h.net)) in
+    rw c.left_of.ensures (rw (back.0, back.1) (inl (
+      refl,
+      record {
+        opening = c.requires.opened;
+        lists = c.journal-lists.ensures.lists;
+        idle = record { outside = same; links = c.requires.ready.none; movers = c.requires.ready.no_mover; planners = c.requires.ready.no_planner; drain = refl };
+      },
+    )))

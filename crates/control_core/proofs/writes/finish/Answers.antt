@@ -1,6 +1,6 @@
 use Rattle.std.proofs.Common.{rules, ◌≡◌, true}
 use Rattle.exec_terms.specs.Machine.{any_unfinished}
-use Rattle.control_core.proofs.Working.{anyhow, new_list, working}
+use Rattle.control_core.proofs.Working.{anyhow, new_call, new_list, working}
 use Rattle.control_core.proofs.writes.finish.Goals as goal
 
 pub proposal-proposal-requires : goal.proposal-proposal-requires
@@ -23,6 +23,9 @@ returns-in-Cancel-clause-busy g c = anyhow (any_unfinished c.args.exec.now.tasks
 
 pub returns-in_default-kind-clause-told : goal.returns-in_default-kind-clause-told
 returns-in_default-kind-clause-told g c = rw (new_list c.args.kind c.in_default-kind.not-Cancel) (search rules)
+
+pub returns-in_default-kind-clause-called : goal.returns-in_default-kind-clause-called
+returns-in_default-kind-clause-called g c = rw (new_list c.args.kind c.in_default-kind.not-Cancel, new_call c.args.kind c.in_default-kind.not-Cancel) (search rules)
 
 pub returns-in_default-kind-clause-busy : goal.returns-in_default-kind-clause-busy
 returns-in_default-kind-clause-busy g c = anyhow (any_unfinished c.args.exec.now.tasks ≡ true) c.commit.result (working c.args.exec.now c.args.lease c.args.kind c.in-Ok.task c.state_is_valid.ensures c.in-Ok.ensures).busy

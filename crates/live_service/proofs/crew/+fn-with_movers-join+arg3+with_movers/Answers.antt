@@ -1,41 +1,49 @@
-use Rattle.std.proofs.Common.{rules, ◌≡◌, ℕ, List, ◌∷◌, map, sym, subst}
+use Rattle.std.proofs.Common.{rules, ◌≡◌, ◌∷◌, ◌∙◌, List, ap, sym, arith}
 use Rattle.mover_rounds.specs.Made.{Copies, copier_of}
-use Rattle.live_service.specs.Asked.{links_asked}
-use Rattle.live_service.specs.Closing.{HasFronted}
-use Rattle.live_service.specs.Fronts.{HasAnswered}
-use Rattle.live_service.specs.Views.{front_of, link_of, net_of, served_of}
-use Rattle.live_service.specs.Workers.{HasRun, Pass}
-use Rattle.live_service.proofs.Crews.{first_taken, run_alone, run_more}
+use Rattle.mover_workers.specs.Callers.{IsSince, known_by_caller}
+use Rattle.mover_workers.specs.Loops.{HasMoved, IsLoopCause}
+use Rattle.mover_workers.specs.declared.loops.LoopEnd.{LoopEnd}
+use Rattle.live_service.specs.Asked.{serving_told}
+use Rattle.live_service.specs.Views.{TeamView, told_of}
+use Rattle.live_service.proofs.Teams.{mover_more}
 use Rattle.live_service.proofs.crew.+fn-with_movers-join+arg3+with_movers.Goals as goal
 
-pub returns-then-movers-eq0-clause-run : goal.returns-then-movers-eq0-clause-run
-returns-then-movers-eq0-clause-run g t c =
-    let view = copier_of g.K.Copier.copies g.K.Copier.faults in
-    let link = link_of g.N.Conn.Source.left g.N.Conn.Sink.written g.N.Conn.Source.faults g.N.Conn.Sink.faults in
-    let sees = front_of view (link_of g.L.Source.left g.L.Sink.written g.L.Source.faults g.L.Sink.faults) (net_of g.N.Listener.faults g.N.Listener.accepted) in
-    let file = c.args.turn.now.start.file in
-    let before = c.args.front in
-    let after = c.serve_front.result.1 in
-    let Did : List Copies → List Copies → Pass → Pass → Type 0 = λ xs ys. HasFronted (HasAnswered file (links_asked c.args.serving) (sees before.copier before.console before.service.listener) (sees after.copier after.console after.service.listener) (map (served_of link) after.service.served.items) c.serve_front.result.2 xs ys) in
-    let old : List Copies = map view before.service.copiers.items in
-    let new : List Copies = map view after.service.copiers.items in
-    let none : 0 ≡ c.args.movers = search rules in
-    subst (λ (n : ℕ). HasRun Did file c.args.pass c.serve_front.result.0 old new n) none
-    (run_alone Did file c.args.pass c.serve_front.result.0 old new c.serve_front.ensures.fronted)
-
-pub returns-clause-run : goal.returns-clause-run
-returns-clause-run g t c =
-    let view = copier_of g.K.Copier.copies g.K.Copier.faults in
-    let link = link_of g.N.Conn.Source.left g.N.Conn.Sink.written g.N.Conn.Source.faults g.N.Conn.Sink.faults in
-    let sees = front_of view (link_of g.L.Source.left g.L.Sink.written g.L.Source.faults g.L.Sink.faults) (net_of g.N.Listener.faults g.N.Listener.accepted) in
-    let file = c.args.turn.now.start.file in
-    let before = c.args.front in
-    let after = c.join-back.result.1.1 in
-    let Did : List Copies → List Copies → Pass → Pass → Type 0 = λ xs ys. HasFronted (HasAnswered file (links_asked c.args.serving) (sees before.copier before.console before.service.listener) (sees after.copier after.console after.service.listener) (map (served_of link) after.service.served.items) c.join-back.result.1.2 xs ys) in
-    let rest = c.remove-copier.new.self.items in
-    let taken : before.service.copiers.items ≡ c.remove-copier.result ∷ rest = first_taken before.service.copiers.items rest c.remove-copier.result (search rules) c.remove-copier.ensures.value c.remove-copier.ensures.items in
-    let given : c.insert.new.self.items ≡ c.join-back.result.0.1 ∷ after.service.copiers.items = search rules in
-    let more = run_more Did file c.args.pass c.split-own.new.pass c.split-own.result c.join-back.result.1.0 c.join-back.result.0.0 c.join.new.pass c.split-own.ensures.cut c.join.ensures.joined c.join-back.ensures.first.0.placed
-    (map view rest) (map view after.service.copiers.items) (view c.remove-copier.result) (view c.join-back.result.0.1) _ c.args.movers (search rules) c.join-back.ensures.second.2 c.join-back.ensures.first.2 in
-    subst (λ xs. HasRun Did file c.args.pass c.join.new.pass (map view xs) (map view c.insert.new.self.items) c.args.movers) (sym taken)
-    (subst (λ xs. HasRun Did file c.args.pass c.join.new.pass (map view (c.remove-copier.result ∷ rest)) (map view xs) c.args.movers) (sym given) more)
+pub returns : goal.returns
+returns g t c =
+    let view = copier_of g.P.Worker.Copier.copies g.P.Worker.Copier.faults in
+    let kept = c.split-own.new.self in
+    let own = c.split-own.result in
+    let one = c.join-back.result.0 in
+    let back = one.0 in
+    let u = c.join-back.result.1.0 in
+    let s : TeamView = c.args.team in
+    let s1 : TeamView = c.take_copier-copier.new.self in
+    let t1 : TeamView = c.join-back.result.1.1 in
+    let whole : TeamView = c.note_mover.new.self in
+    let end = c.join-back.result.1.2 in
+    let k = view c.take_copier-copier.result in
+    let l = view one.1 in
+    let took = c.take_copier-copier.ensures.rest in
+    let put = c.note_mover.ensures.noted in
+    let since : IsSince own back = search rules in
+    let moved : HasMoved (known_by_caller own) (known_by_caller back) k l one.2 = search rules in
+    let cause : IsLoopCause (known_by_caller own) (known_by_caller back) one.2 = search rules in
+    record {
+      run = mover_more c.args.caller kept own u back c.join.new.self c.split-own.ensures.turn.0 c.split-own.ensures.turn.1 c.split-own.ensures.cut since c.join.ensures.turn c.join.ensures.joined c.join.ensures.own.placed
+          (serving_told c.args.serving) s s1 t1 whole end (ap (λ (x : TeamView). told_of x.front) took) (ap (λ (x : TeamView). told_of x.front) put)
+          k l one.2 c.args.movers _ (search rules)
+          c.take_copier-copier.ensures.taken
+          (omega (arith, ap (λ (x : TeamView). x.front.service.room) took))
+          (omega (arith, ap (λ (x : TeamView). x.front.service.places) took))
+          (omega (arith, ap (λ (x : TeamView). x.mover_room) took))
+          (ap (λ (x : TeamView). x.planners) took)
+          (omega (arith, ap (λ (x : TeamView). x.planner_room) took))
+          moved cause c.join-back.ensures.second
+          (ap (λ (x : TeamView). x.front.service.copiers) put)
+          c.note_mover.ensures.room
+          (omega (arith, ap (λ (x : TeamView). x.front.service.places) put))
+          (ap (λ (x : TeamView). x.movers) put)
+          c.note_mover.ensures.ends
+          (ap (λ (x : TeamView). x.planners) put)
+          (omega (arith, ap (λ (x : TeamView). x.planner_room) put));
+    }

@@ -1,36 +1,34 @@
-use Rattle.std.proofs.Common.{rules, ◌≡◌, ℕ, List, map, subst}
-use Rattle.mover_rounds.specs.Made.{Copies, copier_of}
-use Rattle.live_service.specs.Asked.{links_asked}
-use Rattle.live_service.specs.Closing.{HasFronted}
-use Rattle.live_service.specs.Fronts.{HasAnswered}
-use Rattle.live_service.specs.Views.{front_of, link_of, net_of, served_of}
-use Rattle.live_service.specs.Workers.{HasRunAll, Pass}
-use Rattle.live_service.proofs.Crews.{run_all_alone, run_all_more}
+use Rattle.std.proofs.Common.{rules, ◌≡◌, ◌∙◌, refl, ap, arith}
+use Rattle.mover_workers.specs.Callers.{IsSince, known_by_caller}
+use Rattle.mover_workers.specs.Loops.{CallsNoAdmin, HasPlanned}
+use Rattle.live_service.specs.Asked.{serving_told}
+use Rattle.live_service.specs.Views.{TeamView, told_of}
+use Rattle.live_service.proofs.Teams.{no_planner, planner_more}
 use Rattle.live_service.proofs.crew.+fn-with_workers-join+arg3+with_workers.Goals as goal
 
-pub returns-then-planners-eq0-clause-run : goal.returns-then-planners-eq0-clause-run
-returns-then-planners-eq0-clause-run g t c =
-    let view = copier_of g.K.Copier.copies g.K.Copier.faults in
-    let link = link_of g.N.Conn.Source.left g.N.Conn.Sink.written g.N.Conn.Source.faults g.N.Conn.Sink.faults in
-    let sees = front_of view (link_of g.L.Source.left g.L.Sink.written g.L.Source.faults g.L.Sink.faults) (net_of g.N.Listener.faults g.N.Listener.accepted) in
-    let file = c.args.turn.now.start.file in
-    let before = c.args.front in
-    let after = c.with_movers.result.1 in
-    let Did : List Copies → List Copies → Pass → Pass → Type 0 = λ xs ys. HasFronted (HasAnswered file (links_asked c.args.serving) (sees before.copier before.console before.service.listener) (sees after.copier after.console after.service.listener) (map (served_of link) after.service.served.items) c.with_movers.result.2 xs ys) in
-    let old : List Copies = map view before.service.copiers.items in
-    let new : List Copies = map view after.service.copiers.items in
-    let none : 0 ≡ c.args.planners = search rules in
-    subst (λ (n : ℕ). HasRunAll Did file c.args.pass c.with_movers.result.0 old new c.args.movers n) none
-    (run_all_alone Did file c.args.pass c.with_movers.result.0 old new c.args.movers c.with_movers.ensures.run)
+pub returns-then-planners-eq0 : goal.returns-then-planners-eq0
+returns-then-planners-eq0 g t c =
+    let zero : c.args.planners ≡ 0 = search rules in
+    record { run = rw zero (no_planner (serving_told c.args.serving) c.args.caller c.with_movers.result.0 c.args.team c.with_movers.result.1 c.with_movers.result.2 c.args.movers c.requires.ready.no_planner c.with_movers.ensures.run) }
 
-pub returns-clause-run : goal.returns-clause-run
-returns-clause-run g t c =
-    let view = copier_of g.K.Copier.copies g.K.Copier.faults in
-    let link = link_of g.N.Conn.Source.left g.N.Conn.Sink.written g.N.Conn.Source.faults g.N.Conn.Sink.faults in
-    let sees = front_of view (link_of g.L.Source.left g.L.Sink.written g.L.Source.faults g.L.Sink.faults) (net_of g.N.Listener.faults g.N.Listener.accepted) in
-    let file = c.args.turn.now.start.file in
-    let before = c.args.front in
-    let after = c.join-back.result.1.1 in
-    let Did : List Copies → List Copies → Pass → Pass → Type 0 = λ xs ys. HasFronted (HasAnswered file (links_asked c.args.serving) (sees before.copier before.console before.service.listener) (sees after.copier after.console after.service.listener) (map (served_of link) after.service.served.items) c.join-back.result.1.2 xs ys) in
-    run_all_more Did file c.args.pass c.split-own.new.pass c.split-own.result c.join-back.result.1.0 c.join-back.result.0 c.join.new.pass c.split-own.ensures.cut c.join.ensures.joined c.join-back.ensures.first.0.placed
-    (map view before.service.copiers.items) (map view after.service.copiers.items) c.args.movers _ c.args.planners (search rules) c.join-back.ensures.second.2 c.join-back.ensures.first.2
+pub returns : goal.returns
+returns g t c =
+    let kept = c.split-own.new.self in
+    let own = c.split-own.result in
+    let one = c.join-back.result.0 in
+    let back = one.0 in
+    let u = c.join-back.result.1.0 in
+    let s : TeamView = c.args.team in
+    let t1 : TeamView = c.join-back.result.1.1 in
+    let whole : TeamView = c.note_planner.new.self in
+    let end = c.join-back.result.1.2 in
+    let put = c.note_planner.ensures.noted in
+    let since : IsSince own back = search rules in
+    let planned : HasPlanned (known_by_caller own) (known_by_caller back) one.1 = search rules in
+    let no_admin : CallsNoAdmin one.1 = search rules in
+    record {
+      run = planner_more c.args.caller kept own u back c.join.new.self c.split-own.ensures.turn.0 c.split-own.ensures.turn.1 c.split-own.ensures.cut since c.join.ensures.turn c.join.ensures.joined c.join.ensures.own.placed
+          (serving_told c.args.serving) s s t1 whole end refl (ap (λ (x : TeamView). told_of x.front) put) one.1 c.args.movers c.args.planners _ (search rules)
+          refl (omega arith) planned no_admin c.join-back.ensures.second
+          (ap (λ (x : TeamView). x.front) put) (ap (λ (x : TeamView). x.movers) put) (ap (λ (x : TeamView). x.planners) put) c.note_planner.ensures.ends;
+    }

@@ -1,8 +1,10 @@
-use Rattle.std.proofs.Common.{map}
-use Rattle.mover_rounds.specs.Made.{copier_of}
-use Rattle.live_service.proofs.Accepting.{links_none}
+use Rattle.std.proofs.Common.{rules, ◌∙◌, Err, ap, arith}
+use Rattle.live_service.specs.Views.{ServiceView}
+use Rattle.live_service.proofs.Accepting.{none_accepted}
 use Rattle.live_service.proofs.links.serve_links.Goals as goal
 
-pub returns-in-Err-clause-served : goal.returns-in-Err-clause-served
-returns-in-Err-clause-served g c =
-    rw c.listen.ensures.accepted (rw c.requires.none (links_none c.args.turn.now.start.file (g.N.Listener.accepted c.args.service.listener) (map (copier_of g.K.Copier.copies g.K.Copier.faults) c.args.service.copiers.items) c.args.pass))
+pub returns-in-Err-clause-accepted : goal.returns-in-Err-clause-accepted
+returns-in-Err-clause-accepted g c =
+    let rest = c.listen.ensures.rest in
+    none_accepted c.args.caller c.args.service c.listen.new.self c.args.serving.now.links (Err _) c.listen.ensures.accepted (ap (λ (x : ServiceView). x.copiers) rest) (ap (λ (x : ServiceView). x.served) rest ∙ c.requires.space.none)
+    (omega (arith, ap (λ (x : ServiceView). x.room) rest)) (omega (arith, ap (λ (x : ServiceView). x.places) rest)) (search rules) tt tt

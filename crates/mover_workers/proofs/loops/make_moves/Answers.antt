@@ -1,6 +1,6 @@
 use Rattle.std.proofs.Common.{Ok, Err, refl, ◌∙◌}
 use Rattle.core_terms.specs.declared.faults.StepFault.TheVariants.{AdminFault, Memory}
-use Rattle.mover_rounds.specs.Made.{copier_of}
+use Rattle.mover_rounds.specs.Made.{IsCause, copier_of}
 use Rattle.mover_rounds.proofs.Ending.{cause_earlier}
 use Rattle.mover_workers.specs.Loops.{IsMoveUnit}
 use Rattle.mover_workers.specs.declared.steps.Step.TheVariants.{Closed}
@@ -42,6 +42,9 @@ returns-in-Ok-Closed-clause-moved g c =
     let h = rw c.in-Ok-Closed.field-0-is at c.in-Ok-Closed.ensures.made in
     moves_end _ (g.X.Asker.known c.loop.asker) _ _ (copier_of g.K.Copier.copies g.K.Copier.faults c.loop.copier) _ (Ok Closed) c.loop.invariant.did h
 
+pub returns-in-Ok-Closed-clause-cause : goal.returns-in-Ok-Closed-clause-cause
+returns-in-Ok-Closed-clause-cause g c = c.in-Ok-Closed.ensures.kept ∙ c.loop.invariant.kept
+
 pub returns-in-Err-AdminFault-clause-since : goal.returns-in-Err-AdminFault-clause-since
 returns-in-Err-AdminFault-clause-since g c = g.met.X.Asker.goes_on _ c.loop.asker _ c.loop.invariant.since c.move_step.ensures.since
 
@@ -63,3 +66,8 @@ pub returns-in-Err-Memory-clause-moved : goal.returns-in-Err-Memory-clause-moved
 returns-in-Err-Memory-clause-moved g c =
     let h = rw c.in-Err-Memory.field-0-is at c.in-Err-Memory.ensures.made in
     moves_end _ (g.X.Asker.known c.loop.asker) _ _ (copier_of g.K.Copier.copies g.K.Copier.faults c.loop.copier) _ (Err Memory) c.loop.invariant.did h
+
+pub returns-in-Err-Memory-clause-cause : goal.returns-in-Err-Memory-clause-cause
+returns-in-Err-Memory-clause-cause g c =
+    let h : IsCause (g.X.Asker.known c.loop.asker) (g.X.Asker.known c.move_step.new.asker) Memory = rw c.in-Err-Memory.field-0-is at c.in-Err-Memory.ensures.cause in
+    h ∙ c.loop.invariant.kept

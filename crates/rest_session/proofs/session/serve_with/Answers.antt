@@ -5,8 +5,7 @@ use Rattle.mover_rounds.specs.Made.{copier_of}
 use Rattle.rest_stream.specs.Answers.{stop_of}
 use Rattle.rest_stream.specs.Stream.{stream_of}
 use Rattle.rest_stream.proofs.Leading.{few_left}
-use Rattle.rest_session.specs.Answered.{IsServing}
-use Rattle.rest_session.proofs.Serving.{leads_first, none_served, risen_cut, serving_closed, serving_cut, serving_more, serving_refused}
+use Rattle.rest_session.proofs.Serving.{IsServing, leads_first, none_served, risen_cut, serving_closed, serving_cut, serving_more, serving_refused}
 use Rattle.rest_session.proofs.session.serve_with.Goals as goal
 
 pub loop-raw-init : goal.loop-raw-init

@@ -2,7 +2,7 @@ use Rattle.std.proofs.Common.{◌<◌, ◌≤◌, ◌-◌, ◌^◌}
 use Rattle.std.specs.Prelude.{IsNone}
 use Rattle.mover_rounds.specs.Made.{copier_of}
 use Rattle.rest_stream.specs.Stream.{stream_of}
-use Rattle.rest_session.specs.Answered.{IsServing}
+use Rattle.rest_session.proofs.Serving.{IsServing}
 use Rattle.rest_session.proofs.session.serve_with.Given as goal
 
 abbrev pub invariant-loop-raw : goal.invariant-loop-raw

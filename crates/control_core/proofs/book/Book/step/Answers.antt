@@ -1,9 +1,9 @@
 use Rattle.std.proofs.Common.{◌≡◌, ◌∙◌, ◌+◌, ◌<◌, ◌≤◌, ◌^◌, ◌++◌, ◌∷◌, [], cond, length, sym, ap, arith}
 use Rattle.std.specs.Vec.{vec_capacity}
-use Rattle.core_terms.specs.State.{Core}
+use Rattle.core_terms.specs.State.{Core, Desk}
 use Rattle.core_terms.specs.Step.{reply_of}
 use Rattle.core_terms.specs.History.{is_sure, kept_for}
-use Rattle.core_terms.specs.Writes.{told_after}
+use Rattle.core_terms.specs.Writes.{calls_after, told_after}
 use Rattle.control_core.proofs.Stepped.{installed_is, is_now, now, ready, room_for_one, stepped, where_ok}
 use Rattle.control_core.proofs.book.Book.step.Goals as goal
 
@@ -58,3 +58,15 @@ returns-in-Ok-clause-reply g c =
     let b = c.self.inside in
     let state = now (g.A.Admin.told b.admin) (g.A.Admin.parts b.admin) (g.A.Admin.faults b.admin) b.machine b.journal.items (vec_capacity b.journal) b.failures b.late c.self.invariant in
     rw (← c.self.view_is) (c.in-Ok.ensures.reply state.samples c.self.invariant.stands ∙ ap (λ (s : Core). reply_of b.machine.file s c.args.event) (is_now (g.A.Admin.told b.admin) (g.A.Admin.parts b.admin) (g.A.Admin.faults b.admin) b.machine b.journal.items (vec_capacity b.journal) b.failures b.late c.self.invariant))
+
+pub returns-in-Ok-clause-called : goal.returns-in-Ok-clause-called
+returns-in-Ok-clause-called g c =
+    let b = c.self.inside in
+    let called : g.A.Admin.calls c.write.new.admin ≡ calls_after b.machine.desk.exec c.args.event (g.A.Admin.calls b.admin) =
+    where_ok (g.A.Admin.calls c.write.new.admin ≡ calls_after b.machine.desk.exec c.args.event (g.A.Admin.calls b.admin)) c.write.result (sym c.is_err-2.ensures.value ∙ c.if-is_err-2.false) c.write.ensures.called in
+    rw (← c.self.view_is) (called ∙ ap (λ (d : Desk). calls_after d.exec c.args.event (g.A.Admin.calls b.admin)) c.self.invariant.desk_is)
+
+pub returns-in-Ok-clause-faultless : goal.returns-in-Ok-clause-faultless
+returns-in-Ok-clause-faultless g c =
+    let b = c.self.inside in
+    rw (← c.self.view_is) (where_ok (g.A.Admin.faults c.write.new.admin ≡ g.A.Admin.faults b.admin) c.write.result (sym c.is_err-2.ensures.value ∙ c.if-is_err-2.false) c.write.ensures.counted)

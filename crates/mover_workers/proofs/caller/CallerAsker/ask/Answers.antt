@@ -1,14 +1,14 @@
 use Rattle.std.proofs.Common.{IfErr, IfOk, refl, subst}
 use Rattle.mover_rounds.specs.Asked.{HasAsked, IsUnasked}
 use Rattle.mover_workers.specs.Callers.{CallerView, IsSince, known_by_caller, known_by_pass}
-use Rattle.mover_workers.proofs.Placing.{asked_act, fits_act, later_act, unasked_act}
+use Rattle.mover_workers.proofs.Placing.{asked_act, fits_act, grown_act, unasked_act}
 use Rattle.mover_workers.proofs.caller.CallerAsker.ask.Goals as goal
 
 pub returns-clause-since : goal.returns-clause-since
 returns-clause-since g c =
     let t = c.self.inside.turn.now in
     subst (λ (s : CallerView g.row.A.Denot). IsSince s (record { turn = t; pass = c.act.new.pass })) c.self.view_is
-    (record { turn = refl; later = later_act t.start.file c.self.inside.pass c.act.new.pass c.args.event c.self.invariant.placed c.act.result c.act.ensures.made c.act.ensures.refused })
+    (record { turn = refl; grown = grown_act t.start.file c.self.inside.pass c.act.new.pass c.args.event c.self.invariant.placed c.act.result c.act.ensures.made c.act.ensures.refused })
 
 pub returns-clause-asked : goal.returns-clause-asked
 returns-clause-asked g c =

@@ -1,4 +1,4 @@
--- Close, asked by a front.
+-- Close, asked by an actor.
 use Rattle.std.proofs.Common.{◌≡◌, zero, suc, Bool, true, false, not, ◌||◌, List, [], ◌∷◌, ◌++◌, refl, ap, sym, ◌∙◌, subst, arith, inl, inr}
 use Rattle.std.specs.Prelude.{Result, Ok, Err, IfOk, IfErr}
 use Rattle.std.specs.List.{list_any}
@@ -13,9 +13,8 @@ use Rattle.core_terms.specs.declared.events.Event.TheVariants as event
 use Rattle.core_terms.specs.declared.faults.StepFault.{StepFault}
 use Rattle.core_terms.specs.declared.faults.StepFault.TheVariants.{AdminFault, Memory}
 use Rattle.core_terms.specs.declared.replies.Reply.{Reply}
-use Rattle.turn_book.specs.Known.{HasActed, IsRefused}
-use Rattle.live_service.specs.Closing.{IsClosed}
-use Rattle.live_service.specs.Workers.{Pass}
+use Rattle.turn_book.specs.Known.{HasActed, IsRefused, Known as PassView}
+use Rattle.mover_workers.specs.Close.{IsClosed}
 
 not_false : (b : Bool) → not b ≡ false → b ≡ true
 not_false true e = refl
@@ -29,7 +28,7 @@ or_right false = refl
 pub any_in : (xs all : List Event) → IsPrefix xs all → list_any is_close xs ≡ true → list_any is_close all ≡ true
 any_in xs all p e = subst (λ ys. list_any is_close ys ≡ true) p.1 (list_any-append is_close xs p.0 ∙ ap (λ b. b || list_any is_close p.0) e)
 
-module _ (file : Meaning) (law : ClosingWasAsked) (v w : Pass) where
+module _ (file : Meaning) (law : ClosingWasAsked) (v w : PassView Meaning Event) where
   refused : (f : StepFault) (back : Event) → IsRefused blame_of IsWant is_sure_after is_outward file v w event.Close (f, back) → IsClosed v w
   refused Memory back r = inr (record { longer = r.longer; mine = r.mine; last = r.kept refl; closed = law file w.seen (not_false (state_after file w.seen).desk.closing (r.unsure refl)) })
   refused (AdminFault zero) back r = absurd (r.want.0 refl)
@@ -40,6 +39,6 @@ module _ (file : Meaning) (law : ClosingWasAsked) (v w : Pass) where
   closed_by (Err y) a b = refused y.0 y.1 b
 
 -- Close was asked, whoever asked it
-pub was_asked : (v w : Pass) → IsClosed v w → list_any is_close w.seen ≡ true
+pub was_asked : (v w : PassView Meaning Event) → IsClosed v w → list_any is_close w.seen ≡ true
 was_asked v w (inl h) = subst (λ ys. list_any is_close ys ≡ true) (sym h.seen) (list_any-append is_close h.before (event.Close ∷ []) ∙ or_right (list_any is_close h.before))
 was_asked v w (inr h) = h.closed

@@ -1,0 +1,24 @@
+-- What a run with threads works with outside its book, and what it leaves.
+use Rattle.std.specs.Prelude.{List, Option}
+use Rattle.control_core.specs.Books.{BookView}
+use Rattle.live_service.specs.Views.{LinkView, NetView, ServedView}
+use Rattle.mover_rounds.specs.Made.{Copies}
+use Rattle.mover_rounds.specs.declared.drains.DrainEnd.{DrainEnd}
+use Rattle.mover_workers.specs.declared.loops.LoopEnd.{LoopEnd}
+
+-- copiers, a console, and a listener
+pub record OutsideView : Type 0 where
+  pub copiers : List Copies
+  pub console : LinkView
+  pub net : NetView
+
+-- the book, or the admin where none was begun; how the drain ended, where there was one; the outside; the links that were accepted; and how
+-- the loops of movers and planners ended
+pub record LeftView (A : Type 0) : Type 0 where
+  pub book : Option (BookView A)
+  pub admin : Option A
+  pub drain : Option DrainEnd
+  pub outside : OutsideView
+  pub links : List ServedView
+  pub movers : List LoopEnd
+  pub planners : List LoopEnd

@@ -1,0 +1,37 @@
+use Rattle.std.proofs.Common.{rules, ◌≡◌, List, [], Ok, Some, None, string_bytes, refl, sym, subst}
+use Rattle.cc_base.specs.Outside.{with_name}
+use Rattle.mover_rounds.specs.Made.{copier_of}
+use Rattle.live_service.specs.Asked.{ServingAsked}
+use Rattle.live_service.specs.Fronts.{HasAccepted, HasLinkCause}
+use Rattle.live_service.specs.Runs.{HasServed}
+use Rattle.live_service.specs.Views.{FrontView, ServedView, link_of}
+use Rattle.live_service.specs.declared.front.FrontEnd.TheVariants as front
+use Rattle.live_service.proofs.Fronting.{console_served, links_served}
+use Rattle.live_service.proofs.front.serve_front.Goals as goal
+
+pub returns-in_default : goal.returns-in_default
+returns-in_default g c =
+    let view = copier_of g.P.Worker.Copier.copies g.P.Worker.Copier.faults in
+    let link = link_of g.P.Console.Source.left g.P.Console.Sink.written g.P.Console.Source.faults g.P.Console.Sink.faults in
+    let old : FrontView = record { copier = view c.front.inside.copier; console = link c.front.inside.console; service = c.front.inside.service } in
+    let new : FrontView = record { copier = view c.serve-end.new.copier; console = link c.serve-end.new.link; service = c.front.inside.service } in
+    let none : old.service.served ≡ [] = subst (λ (f : FrontView). f.service.served ≡ []) (sym c.front.view_is) c.requires.space.none in
+    let cause : HasLinkCause old.console new.console c.serve-end.result = search rules in
+    let served : HasServed None c.args.caller c.close.new.self old new (front.Console c.serve-end.result) =
+    console_served c.args.caller c.serve-end.new.asker c.close.new.self old new c.close.ensures.since c.close.ensures.closed c.close.ensures.own.placed c.serve-end.result c.serve-end.ensures.since c.serve-end.ensures.served cause refl none in
+    rw c.in_default.is (record { served = subst (λ (f : FrontView). HasServed None c.args.caller c.close.new.self f new (front.Console c.serve-end.result)) c.front.view_is served })
+
+pub returns-in-Ok : goal.returns-in-Ok
+returns-in-Ok g c =
+    let view = copier_of g.P.Worker.Copier.copies g.P.Worker.Copier.faults in
+    let link = link_of g.P.Console.Source.left g.P.Console.Sink.written g.P.Console.Source.faults g.P.Console.Sink.faults in
+    let serving = c.in-Some.serving in
+    let asked : ServingAsked = record { address = string_bytes serving.address; links = serving.links } in
+    let back = c.serve_links-caller.result in
+    let old : FrontView = record { copier = view c.front-2.inside.copier; console = link c.front-2.inside.console; service = c.front-2.inside.service } in
+    let new : FrontView = record { copier = old.copier; console = old.console; service = back.1 } in
+    let accepted : HasAccepted c.args.caller back.0 old.service new.service serving.links (Ok tt) = rw c.in-Ok.is at c.serve_links-caller.ensures.accepted in
+    let heard : new.service.net.heard ≡ with_name old.service.net.heard asked.address = rw c.in-Ok.is at c.serve_links-caller.ensures.heard in
+    let served : HasServed (Some asked) c.args.caller c.close-2.new.self old new front.Accepted =
+    links_served c.args.caller back.0 c.close-2.new.self old new c.close-2.ensures.since c.close-2.ensures.closed c.close-2.ensures.own.placed asked accepted heard refl refl in
+    rw c.in-Some.is (record { served = subst (λ (f : FrontView). HasServed (Some asked) c.args.caller c.close-2.new.self f new front.Accepted) c.front-2.view_is served })

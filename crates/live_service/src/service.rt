@@ -1,0 +1,143 @@
+// The service of a listener.
+ghost use Rattle.std.specs.Prelude.{◌≡◌, ◌∷◌, ◌<◌, ◌≤◌, IfOk, OnErr, OnOk, length};
+ghost use Rattle.cc_base.specs.Outside.{HasCause, with_name};
+ghost use Rattle.mover_rounds.specs.Made.{copier_of};
+ghost use Rattle.live_service.specs.Views.{link_of};
+ghost use Rattle.net_links.specs.Links.{IsFresh, with_link};
+
+use cc_base::Failed;
+use cluster_gate::Copier;
+use net_links::Listener;
+use rest_session::LinkEnd;
+use std::marker::Model;
+
+/// A link that was served.
+#[derive(Drop)]
+pub struct Served<C> {
+    pub link: C,
+    pub end: LinkEnd,
+}
+
+/// A listener with the copiers of its links, one each, and the links that were served, in the order
+/// in which they were accepted.
+#[derive(Drop)]
+pub struct Service<K: Copier, N: Listener>
+where
+    N::Conn: Drop,
+{
+    pub listener: N,
+    pub copiers: Vec<K>,
+    pub served: Vec<Served<N::Conn>>,
+}
+
+impl<K: Copier, N: Listener> Model for Service<K, N>
+where
+    N::Conn: Drop,
+{
+    ghost use Rattle.std.specs.Prelude.{map, vec_capacity};
+    ghost use Rattle.mover_rounds.specs.Made.{copier_of};
+    ghost use Rattle.live_service.specs.Views.{ServiceView, link_of, net_of};
+
+    ghost Value = { ServiceView };
+
+    ghost view = { λ s. record {
+      net = net_of N.faults N.accepted N.heard s.listener;
+      copiers = map (copier_of K.copies K.faults) s.copiers.items;
+      served = map (λ c. record {
+        link = link_of N.Conn.left N.Conn.written N.Conn.Source.faults N.Conn.Sink.faults c.link;
+        end = c.end;
+      }) s.served.items;
+      room = vec_capacity s.copiers;
+      places = vec_capacity s.served;
+    } };
+}
+
+impl<K: Copier + Drop, N: Listener> Service<K, N>
+where
+    N::Conn: Drop,
+{
+    /// Listens at an address, `HOST:PORT`.
+    ///
+    /// # Errors
+    ///
+    /// `Failed` where the call fails.
+    pub fn listen(&mut self, address: &str) -> Result<(), Failed>
+        ensures cause { HasCause self.old.net.faults self.new.net.faults result }
+        ensures counted { OnOk result (self.new.net.faults ≡ self.old.net.faults) }
+        ensures heard { OnOk result
+            (self.new.net.heard ≡ with_name self.old.net.heard address.now) }
+        ensures unheard { OnErr result (self.new.net.heard ≡ self.old.net.heard) }
+        ensures accepted { self.new.net.accepted ≡ self.old.net.accepted }
+        ensures rest { self.new ≡ record self.old { net = self.new.net } }
+    {
+        self.listener.listen(address)
+    }
+
+    /// The next link. Nothing was written to it yet.
+    ///
+    /// # Errors
+    ///
+    /// `Failed` where the call fails. No link is accepted then.
+    pub fn accept(&mut self) -> Result<N::Conn, Failed>
+        ensures cause { HasCause self.old.net.faults self.new.net.faults result }
+        ensures counted { OnOk result (self.new.net.faults ≡ self.old.net.faults) }
+        ensures heard { self.new.net.heard ≡ self.old.net.heard }
+        ensures accepted { IfOk result
+            (λ link. self.new.net.accepted
+            ≡ with_link self.old.net.accepted
+            (record {
+              source_faults = N.Conn.Source.faults link;
+              sink_faults = N.Conn.Sink.faults link;
+              left = N.Conn.left link;
+            })) }
+        ensures fresh { IfOk result (λ link. IsFresh (N.Conn.written link)) }
+        ensures failed { OnErr result (self.new.net.accepted ≡ self.old.net.accepted) }
+        ensures rest { self.new ≡ record self.old { net = self.new.net } }
+    {
+        self.listener.accept()
+    }
+
+    /// Takes the first copier away.
+    pub fn take_copier(&mut self) -> K
+        requires some { 0 < length self.old.copiers }
+        ensures taken { self.old.copiers
+            ≡ copier_of K.copies K.faults result ∷ self.new.copiers }
+        ensures rest { self.new ≡ record self.old { copiers = self.new.copiers } }
+    {
+        self.copiers.remove(0)
+    }
+
+    /// Puts a copier before the others.
+    pub fn give_copier(&mut self, copier: K)
+        requires room { length self.old.copiers < self.old.room }
+        ensures given { self.new
+            ≡ record self.old {
+              copiers = copier_of K.copies K.faults copier ∷ self.old.copiers;
+              room = self.new.room;
+            } }
+        ensures room { self.old.room ≤ self.new.room }
+    {
+        let Ok(()) = self.copiers.insert(0, copier) else {
+            unreachable!()
+        };
+    }
+
+    /// Puts a link that was served before the others.
+    pub fn note(&mut self, served: Served<N::Conn>)
+        requires places { length self.old.served < self.old.places }
+        ensures noted { self.new
+            ≡ record self.old {
+              served = record {
+                link = link_of N.Conn.left N.Conn.written N.Conn.Source.faults N.Conn.Sink.faults
+                    served.link;
+                end = served.end;
+              } ∷ self.old.served;
+              places = self.new.places;
+            } }
+        ensures places { self.old.places ≤ self.new.places }
+    {
+        let Ok(()) = self.served.insert(0, served) else {
+            unreachable!()
+        };
+    }
+}
