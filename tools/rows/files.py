@@ -1,4 +1,18 @@
 """Cluster files as plain data: texts that stand in the middle of a file, and the file's first fault (none: it is taken)."""
+from rows.plans import THREE_BROKERS
+
+
+def changed(old, new):
+    """The file of three brokers with one change."""
+    before, found, behind = THREE_BROKERS.partition(old)
+    assert found and old not in behind, old
+    return before + new + behind
+
+
+def with_member(member):
+    """The file of three brokers with one more member."""
+    return f"{THREE_BROKERS[:-1]},{member}}}"
+
 
 # The text is the whole file.
 WHOLE = (
@@ -209,4 +223,27 @@ CONFIG = (
     ],
 )
 
-FILES = [WHOLE, BROKER, ENTRIES, CAPACITY, PARTITIONS, MEMBER, SAMPLES, FLOORS, CONFIG]
+CAPACITY_OF_0 = '"brokerCapacities":[{"brokerId":"0","capacity":{"DISK":"100","CPU":"100","NW_IN":"100","NW_OUT":"100"}}]'
+
+# Three brokers, with one change each. The first one is taken.
+CHANGED = (
+    "",
+    "",
+    [
+        (changed("[0,1]", "[0,2]"), ""),
+        (changed('"version":1', '"version":3'), "UnsupportedVersion"),
+        (changed('"id":0', '"id":2147483648'), "BadNumber /brokers/0/id"),
+        (changed('"id":0,"rack":"a"', '"id":0,"rack":5'), "WrongShape /brokers/0/rack"),
+        (changed('"id":1', '"id":0'), "DuplicateBroker 0"),
+        (changed('"topic":"t"', '"topic":"."'), "BadTopic /partitions/0/topic"),
+        (changed("[0,1]", "[]"), "EmptyReplicas 0"),
+        (changed("[0,1]", "[7]"), "UnknownBroker 0 7"),
+        (changed("[0,1]", "[0,0]"), "DuplicateReplica 0 0"),
+        (changed("[0,1]", "[0,1,2,3,4,5,6,7,8]"), "OverLimit Replicas"),
+        (with_member(CAPACITY_OF_0), "MissingCapacity 1"),
+        (with_member(CAPACITY_OF_0.replace('"DISK":"100"', '"DISK":{"/tmp":"100"}')), "Unsupported /brokerCapacities/0/capacity/DISK"),
+        (with_member('"config":{"a":"1"}'), "BadConfig a"),
+    ],
+)
+
+FILES = [WHOLE, BROKER, ENTRIES, CAPACITY, PARTITIONS, MEMBER, SAMPLES, FLOORS, CONFIG, CHANGED]

@@ -1,11 +1,13 @@
 """Plans, assignments and traces as plain data: words, the text of the file `cluster`, that of the file `trace` (none: there is no
 such file), and the status, the output and the line that come. Where the status is 7 the output takes nothing."""
 
-PLAN = "plan cluster --goals RackAwareGoal --skip-hard-goal-check"
+RACKS = " --goals RackAwareGoal --skip-hard-goal-check"
 
-APPLY = "apply cluster --goals RackAwareGoal --skip-hard-goal-check"
+PLAN = "plan cluster" + RACKS
 
-CHECK = "check cluster trace --goals RackAwareGoal --skip-hard-goal-check"
+APPLY = "apply cluster" + RACKS
+
+CHECK = "check cluster trace" + RACKS
 
 # Two replicas on one rack.
 THREE_BROKERS = '{"version":1,"brokers":[{"id":0,"rack":"a"},{"id":1,"rack":"a"},{"id":2,"rack":"b"}],"partitions":[{"topic":"t","partition":0,"replicas":[0,1]}]}'
@@ -34,11 +36,26 @@ TOO_FEW_RACKS = '{"version":1,"brokers":[{"id":1,"rack":"dc-1"},{"id":2,"rack":"
 # A replica on a lost broker, two on one rack, and three partitions that a demoted broker leads.
 TROUBLED = '{"version":1,"brokers":[{"id":0,"rack":"a","state":"DEAD"},{"id":1,"rack":"a"},{"id":2,"rack":"b"},{"id":3,"rack":"c","state":"DEMOTED"},{"id":4,"rack":"b"}],"partitions":[{"topic":"t","partition":0,"replicas":[0,2]},{"topic":"t","partition":1,"replicas":[2,4]},{"topic":"t","partition":2,"replicas":[3,2]},{"topic":"t","partition":3,"replicas":[3,1]},{"topic":"t","partition":4,"replicas":[3,4]}]}'
 
+# The demoted broker leads both partitions, one of which stands on it alone.
+DEMOTED_AND_ALONE = (
+    '{"version":1,"brokers":[{"id":0,"state":"DEMOTED"},{"id":1}],'
+    '"partitions":[{"topic":"t","partition":0,"replicas":[0,1]},{"topic":"t","partition":1,"replicas":[0]}]}'
+)
+
 MOVED = '{"partitions":[{"partition":0,"replicas":[2,1],"topic":"t"}],"version":1}\n'
 
 DRAINED = '{"partitions":[{"partition":0,"replicas":[1,2],"topic":"t"}],"version":1}\n'
 
 LED = '{"partitions":[{"partition":0,"replicas":[1],"topic":"t"}],"version":1}\n'
+
+LED_BY_1 = '{"partitions":[{"partition":0,"replicas":[1,0],"topic":"t"}],"version":1}\n'
+
+LEADERS_ALONE = " --excluded-topics t"
+
+LEAD_TRACED = (
+    '{"result":"PLANNED","turns":[{"actions":[],"goal":"EvacuationGoal"},{"actions":[],"goal":"RackAwareGoal"},'
+    '{"actions":[["LEAD",0,1]],"goal":"DemotionGoal"}],"version":1}\n'
+)
 
 NOTHING = '{"partitions":[],"version":1}\n'
 
@@ -94,6 +111,10 @@ ROWS = [
         "",
         "file fault\n",
     ),
+    # a demotion where no replica may move: one leader changes, and the other stays with its only replica
+    (PLAN + LEADERS_ALONE, DEMOTED_AND_ALONE, "", 0, LED_BY_1, ""),
+    (PLAN + LEADERS_ALONE + " --trace", DEMOTED_AND_ALONE, "", 0, LEAD_TRACED, ""),
+    (CHECK + LEADERS_ALONE, DEMOTED_AND_ALONE, LEAD_TRACED, 0, "good\n", ""),
     # an output that fails at once
     (PLAN, THREE_BROKERS, "", 7, "", "write fault\n"),
     (APPLY, THREE_BROKERS, "", 7, "", "write fault\n"),
@@ -409,6 +430,16 @@ TRACES = [
         '{"result":"FAILED","turns":[{"actions":[],"goal":"EvacuationGoal"},{"actions":[],"goal":"RackAwareGoal"}],"version":1}\n',
         RACKS_LINE,
     ),
+]
+
+# Words behind a command, and a cluster whose fresh trace is judged: that of a plan, or of a failure.
+TRACED = [
+    *((RACKS, cluster) for cluster in (NO_PARTITION, THREE_BROKERS, THREE_ZONES, TWO_RACKS_FOR_THREE, TOO_FEW_RACKS)),
+    *((RACKS, cluster) for cluster in (STATES, LOST_ALONE, LOST_AMONG_THREE, DEMOTED_LEADER, TROUBLED)),
+    (RACKS + LEADERS_ALONE, DEMOTED_AND_ALONE),
+    ("", THREE_BROKERS),
+    ("", THREE_ZONES),
+    ("", TROUBLED),
 ]
 
 # Bytes that are no trace.

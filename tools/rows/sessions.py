@@ -1,9 +1,11 @@
 """Sessions as plain data: the text of the file `cluster`, requests, and the status, the replies and the line that come."""
-from rows.plans import THREE_BROKERS
+from rows.plans import THREE_BROKERS, TWO_RACKS_FOR_THREE
 
 FIRST_TASK = "00000000-0000-8000-8000-000000000001"
 
 SECOND_TASK = "00000000-0000-8000-8000-000000000002"
+
+THIRD_TASK = "00000000-0000-8000-8000-000000000003"
 
 CLUSTER_STATE = "GET /kafkacruisecontrol/kafka_cluster_state"
 
@@ -35,6 +37,10 @@ def list_told(members, adding="[]"):
     return told(f'{{"deadBrokers":[],"partitions":[{{"adding":{adding},"partition":0,"removing":[],"replicas":{members},"topic":"t"}}],"version":1}}')
 
 
+def caps_told(broker, cluster, leader):
+    return told(f'{{"broker":{broker},"cluster":{cluster},"leader":{leader},"version":1}}')
+
+
 def bad_parameter(name):
     return refused("400 Bad Request", f"bad parameter: {name}")
 
@@ -45,10 +51,29 @@ def asked(line, task=None):
     return f"{line} HTTP/1.1\r\n{field}\r\n"
 
 
+def asked_with_body(line, body):
+    return f"{line} HTTP/1.1\r\nContent-Length: {len(body)}\r\n\r\n{body}"
+
+
 def session(cluster, *talk):
     """The row of a session that ends well: the lines of requests, each with its reply and perhaps with the user task that it is for."""
     requests = "".join(asked(line, *task) for line, _, *task in talk)
     return cluster, requests, 0, "".join(replied for _, replied, *_ in talk), ""
+
+
+def read(requests, replies):
+    """The row of a session over two brokers that ends well, with the text of its requests."""
+    return TWO_BROKERS, requests, 0, replies, ""
+
+
+def cut_behind(requests, replies):
+    """The row of a session over two brokers whose last request is cut off or can't be framed."""
+    return TWO_BROKERS, requests, 10, replies, "input cut\n"
+
+
+def head_of(fields):
+    """A head with so many fields."""
+    return "GET / HTTP/1.1\r\n" + "a: b\r\n" * fields + "\r\n"
 
 
 # Two brokers, and a partition on the first; requests are planned for without loads.
@@ -232,6 +257,71 @@ FACTOR_REFUSED = session(
     ("POST /kafkacruisecontrol/topic_configuration?topic=t&replication_factor=1", refused("404 Not Found", f"no such task: {FIRST_TASK}"), FIRST_TASK),
 )
 
+LED_BY_1 = '{"newReplicas":[1,0],"oldReplicas":[0,1],"topicPartition":{"partition":0,"topic":"t"}}'
+
+ONE_COMPLETED = '"aborted":0,"aborting":0,"completed":1,"dead":0,"inProgress":0,"pending":0,"state":"NO_TASK_IN_PROGRESS"'
+
+# What is told of a demotion: what it would change, the same by its task once it was carried out, and nothing that is left to change.
+DEMOTION_TOLD = session(
+    LED_BY_0,
+    ("POST /kafkacruisecontrol/demote_broker?brokerid=0", accepted("Active", FIRST_TASK)),
+    ("POST /cluster/pump?steps=9", told('{"done":1,"idle":true,"version":1}')),
+    ("POST /kafkacruisecontrol/demote_broker?brokerid=0", completed(LED_BY_1, FIRST_TASK), FIRST_TASK),
+    ("POST /kafkacruisecontrol/demote_broker?brokerid=0&dryrun=false", accepted("Active", SECOND_TASK)),
+    ("POST /cluster/pump?steps=9", told('{"done":2,"idle":true,"version":1}')),
+    ("POST /kafkacruisecontrol/demote_broker?brokerid=0&dryrun=false", completed(LED_BY_1, SECOND_TASK), SECOND_TASK),
+    ("GET /kafkacruisecontrol/state", told(f'{{"ExecutorState":{{{ONE_COMPLETED}}},"MonitorState":{{"all":2,"valid":0}},"version":1}}')),
+    ("POST /kafkacruisecontrol/demote_broker?brokerid=0", accepted("Active", THIRD_TASK)),
+    ("POST /cluster/pump?steps=9", told('{"done":1,"idle":true,"version":1}')),
+    ("POST /kafkacruisecontrol/demote_broker?brokerid=0", completed("", THIRD_TASK), THIRD_TASK),
+)
+
+RACKS_FAILED = f'{{"failed":"RackAwareGoal","measure":"1","status":"CompletedWithError","userTaskId":"{FIRST_TASK}","version":1}}'
+
+# A hard goal fails, which ends the task of the request, and nothing is changed.
+GOAL_FAILED = session(
+    TWO_RACKS_FOR_THREE[:-1] + ',"config":{"min.valid.partition.ratio":"0"}}',
+    ("POST /kafkacruisecontrol/rebalance?dryrun=false", accepted("Active", FIRST_TASK)),
+    ("POST /cluster/pump?steps=9", told('{"done":1,"idle":true,"version":1}')),
+    ("POST /kafkacruisecontrol/rebalance?dryrun=false", reply("200 OK", RACKS_FAILED, FIRST_TASK), FIRST_TASK),
+    (CLUSTER_STATE, list_told("[0,1,2]")),
+)
+
+# Each of the three caps is changed alone or beside another, and one that isn't named stays as it is.
+CAPS = session(
+    TWO_BROKERS,
+    ("POST /kafkacruisecontrol/admin?concurrent_partition_movements_per_broker=1", caps_told(1, 1250, 1000)),
+    ("POST /kafkacruisecontrol/admin?max_partition_movements_in_cluster=10000&concurrent_leader_movements=2", caps_told(1, 10000, 2)),
+    ("POST /kafkacruisecontrol/admin", bad_parameter("concurrent_partition_movements_per_broker")),
+    ("POST /kafkacruisecontrol/admin?max_partition_movements_in_cluster=0", bad_parameter("max_partition_movements_in_cluster")),
+    ("POST /kafkacruisecontrol/admin?concurrent_leader_movements=10001", bad_parameter("concurrent_leader_movements")),
+    ("GET /kafkacruisecontrol/admin?concurrent_leader_movements=1", refused("405 Method Not Allowed", "method not allowed")),
+    ("POST /kafkacruisecontrol/admin?concurrent_partition_movements_per_broker=10000", caps_told(10000, 10000, 2)),
+)
+
+# Requests that are refused, each in a session of its own. Behind one that can't be framed the session ends.
+REQUESTS_REFUSED = [
+    read(asked("GET /kafkacruisecontrol/rebalance"), refused("405 Method Not Allowed", "method not allowed")),
+    read(asked("POST /kafkacruisecontrol/remove_broker"), bad_parameter("brokerid")),
+    read(asked("POST /kafkacruisecontrol/rebalance?dryrun=maybe"), bad_parameter("dryrun")),
+    read(asked_with_body("POST /cluster/sample", "{}"), refused("400 Bad Request", "bad body")),
+    cut_behind("GET / HTTP/1.1\r\nContent-Length: x\r\n\r\n", refused("400 Bad Request", "bad length")),
+    cut_behind("GET / HTTP/1.1\r\nContent-Length: x\r\n\r\n" + asked(CLUSTER_STATE), refused("400 Bad Request", "bad length")),
+    cut_behind("GET / HTTP/1.1\r\nTransfer-Encoding: chunked\r\n\r\n", refused("501 Not Implemented", "transfer encoding is not taken")),
+    cut_behind("GET / HTTP/1.1\r\nContent-Length: 1048577\r\n\r\n", refused("413 Content Too Large", "body too long")),
+    cut_behind(head_of(65), refused("400 Bad Request", "bad head")),
+    cut_behind("GET / HTTP/2.0\r\n\r\n", refused("400 Bad Request", "bad head")),
+    cut_behind("GET /" + "a" * 16379, refused("431 Request Header Fields Too Large", "head too long")),
+]
+
+# Those that are just within the limits.
+LIMITS_KEPT = [
+    read(head_of(64), refused("404 Not Found", "not found")),
+    read("GET /" + "a" * 16366 + " HTTP/1.1\r\n\r\n", refused("404 Not Found", "not found")),
+    read(asked_with_body("POST /cluster/sample", " " * 1048576), refused("400 Bad Request", "bad body")),
+    cut_behind("GET /" + "a" * 16378, ""),
+]
+
 # Sessions over few brokers.
 SESSIONS = [
     (TWO_BROKERS, KEYS, 0, KEYS_ANSWERED, ""),
@@ -250,4 +340,9 @@ SESSIONS = [
     FACTOR_DRY,
     CHOICES,
     FACTOR_REFUSED,
+    DEMOTION_TOLD,
+    GOAL_FAILED,
+    CAPS,
+    *REQUESTS_REFUSED,
+    *LIMITS_KEPT,
 ]

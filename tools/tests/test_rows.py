@@ -1,4 +1,5 @@
 """What the built program answers for the rows in tools/rows, with a full output, without memory, and where a write fails."""
+import contextlib
 import os
 import pathlib
 import resource
@@ -7,6 +8,7 @@ import socket
 import subprocess
 import sys
 import tempfile
+import threading
 import unittest
 
 ROOT = pathlib.Path(__file__).resolve().parents[2]
@@ -31,6 +33,13 @@ def reset_after(text):
     return socket_of_text
 
 
+def send_bytes_apart(pipe, text):
+    """Writes each byte by itself, as long as they are read, and then the end."""
+    with contextlib.suppress(BrokenPipeError), open(pipe, "wb", buffering=0) as file:
+        for byte in text:
+            file.write(bytes([byte]))
+
+
 @unittest.skipUnless(PROGRAM.exists() or os.environ.get("CI"), "the program isn't built")
 class Rows(unittest.TestCase):
     def setUp(self):
@@ -42,6 +51,19 @@ class Rows(unittest.TestCase):
         given = {"stdout": subprocess.PIPE, "input": requests.encode(), **more}
         words = words.split(" ") if isinstance(words, str) else words
         return subprocess.run([PROGRAM, *words], cwd=self.room, stderr=subprocess.PIPE, timeout=60, **given)
+
+    def run_by_bytes(self, words, requests):
+        """The run each of whose reads gets one byte: a pipe of packets gives a reader what was written at once, and no more."""
+        reading, writing = os.pipe2(os.O_DIRECT)
+        sender = threading.Thread(target=send_bytes_apart, args=(writing, requests.encode()), daemon=True)
+        with open(reading, "rb") as stdin:
+            pipes = {"stdin": stdin, "stdout": subprocess.PIPE, "stderr": subprocess.PIPE}
+            process = subprocess.Popen([PROGRAM, *words.split(" ")], cwd=self.room, **pipes)
+        self.addCleanup(process.kill)
+        sender.start()
+        out, err = process.communicate(timeout=60)
+        sender.join()
+        return process.returncode, out, err
 
     def write(self, cluster, trace=""):
         (self.room / "cluster").write_text(cluster)
@@ -94,11 +116,47 @@ class Rows(unittest.TestCase):
         checked = self.run_program("check cluster trace")
         self.assertEqual((checked.returncode, checked.stdout), (0, b"good\n"))
 
+    def test_the_same_words_make_the_same_bytes(self):
+        for words in ("gen 7 --brokers 12 --partitions 120", "gen 7 --brokers 12 --partitions 120 --file"):
+            first, second = (self.run_program(words) for _ in range(2))
+            self.assertEqual((first.returncode, first.stdout, first.stderr), (second.returncode, second.stdout, second.stderr))
+            self.assertIn(first.returncode, (0, 4))
+            self.assertNotEqual(first.stdout, b"")
+
+    def test_fresh_traces_are_good(self):
+        for words, cluster in plans.TRACED:
+            with self.subTest(words=words, cluster=cluster):
+                self.write(cluster)
+                planned = self.run_program(f"plan cluster --trace{words}")
+                self.assertIn(planned.returncode, (0, 4))
+                self.write(cluster, planned.stdout.decode())
+                checked = self.run_program(f"check cluster trace{words}")
+                self.assertEqual((checked.returncode, checked.stdout, checked.stderr), (0, b"good\n", b""))
+
+    def test_what_is_left_of_a_demotion(self):
+        """The demoted broker leads two partitions, and one where the plan was carried out, as the tools count."""
+        self.write(plans.DEMOTED_AND_ALONE)
+        (self.room / "plan").write_bytes(self.run_program(plans.PLAN + plans.LEADERS_ALONE).stdout)
+        shown = subprocess.run([ROOT / "tools/show-plan", "cluster", "plan"], cwd=self.room, capture_output=True, text=True, timeout=60)
+        lines = shown.stdout.splitlines()
+        self.assertEqual(lines[0], "1 of 2 partitions change: 0 replicas move (0 MB), 1 leader changes")
+        self.assertIn(["DemotionGoal", "soft", "2", "1", "better"], [line.split() for line in lines])
+
     def test_sessions(self):
         for cluster, requests, status, replies, line in sessions.SESSIONS:
-            self.write(cluster)
-            ran = self.run_program("session cluster --movers 0", requests)
-            self.assertEqual((ran.returncode, ran.stdout, ran.stderr), (status, replies.encode(), line.encode()))
+            with self.subTest(requests=requests[:200]):
+                self.write(cluster)
+                ran = self.run_program("session cluster --movers 0", requests)
+                self.assertEqual((ran.returncode, ran.stdout, ran.stderr), (status, replies.encode(), line.encode()))
+
+    def test_sessions_that_come_byte_by_byte(self):
+        for cluster, requests, *answered in sessions.SESSIONS:
+            if len(requests) > 1 << 15:
+                continue
+            with self.subTest(requests=requests[:200]):
+                self.write(cluster)
+                status, out, err = self.run_by_bytes("session cluster --movers 0", requests)
+                self.assertEqual([status, out.decode(), err.decode()], answered)
 
     def test_an_input_that_fails(self):
         self.write(sessions.TWO_BROKERS)
