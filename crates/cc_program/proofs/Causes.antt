@@ -23,22 +23,28 @@ use Rattle.rest_stream.specs.declared.raw.Stop.{Stop}
 use Rattle.cc_program.specs.Complete.{HasLiveFailed, IsCauseBy, IsCutSession, IsLiveGiven, IsServed}
 use Rattle.quiet_commands.specs.Input.{IsRefused, Means}
 use Rattle.quiet_commands.specs.Ends.{IsTold, lines_of, status_of}
-use Rattle.cc_program.specs.Lives.{Gate, IsLeftFrom, IsLiveOf, IsLiveRefusal, IsNotBegun, IsUnasked, IsUnread, Leaves, LiveAsked, Shelf, any_want, copiers_before, ended_live, live_command, or_want}
+use Rattle.cc_program.specs.Lives.{Gate, IsLeftFrom, IsCalled, IsForgone, IsLiveOf, IsLoadedOnce, IsNotBegun, IsUnasked, IsUnread, Leaves, LiveAsked, Shelf, any_want, copiers_before, ended_live, live_command, or_want}
 use Rattle.cc_program.specs.Outside.{LeftView, OutsideView}
 use Rattle.quiet_commands.specs.Sessions.{drained_end}
 use Rattle.quiet_commands.specs.declared.ends.End.{End}
 use Rattle.quiet_commands.specs.declared.ends.End.TheVariants as end
 use Rattle.quiet_commands.proofs.Streams.{if_told, never_cut}
 
+-- the words ask one thing
 same_asked : (words : List (List ℕ)) (a b : LiveAsked) → live_command words ≡ Some a → live_command words ≡ Some b → a ≡ b
 same_asked words a b h k = (let i : Some a ≡ Some b = sym h ∙ k in cc)
 
--- a command that there are copiers enough for is asked
-pub is_asked : (words : List (List ℕ)) (copiers : ℕ) (asked : LiveAsked) → live_command words ≡ Some asked → copiers_before asked.crew < copiers → IsUnasked words copiers → ⊥
-is_asked words copiers asked means enough (inl none) = (let i : None ≡ Some asked = sym none ∙ means in cc)
-is_asked words copiers asked means enough (inr many) =
-    let same : many.asked ≡ asked = same_asked words many.asked asked many.means means in
-    absurd (omega (arith, enough, subst (λ (a : LiveAsked). copiers ≤ copiers_before a.crew) same many.few))
+-- memory ran out behind the words
+pub forgone : (words : List (List ℕ)) (copiers : ℕ) (files : Shelf) (call : IsCalled words copiers) → IsLoadedOnce files call.asked → IsForgone words copiers files
+forgone words copiers files call (inl h) = inl h
+forgone words copiers files call (inr h) = inr (call, h)
+
+-- there are copiers enough for what the words ask
+called : (words : List (List ℕ)) (copiers : ℕ) → IsCalled words copiers → IsUnasked words copiers → ⊥
+called words copiers call (inl none) = (let i : None ≡ Some call.asked = sym none ∙ call.means in cc)
+called words copiers call (inr many) =
+    let same : many.asked ≡ call.asked = same_asked words many.asked call.asked many.means call.means in
+    absurd (omega (arith, call.enough, subst (λ (a : LiveAsked). copiers ≤ copiers_before a.crew) same many.few))
 
 module _ {A : Type 0} (gate : Gate A) (words : List (List ℕ)) (files : Shelf) (o : OutsideView) (admin : A) (l : LeftView A) where
   abbrev Cause : Option (BookView A) → End → Type 0
@@ -48,7 +54,7 @@ module _ {A : Type 0} (gate : Gate A) (words : List (List ℕ)) (files : Shelf) 
   unread : (book : Option (BookView A)) (way : End) → l.drain ≡ None → IsUnread words (length o.copiers) files way → Cause book way
   unread book end.Usage none h = h.0
   unread book (end.Refused line) none h = (h, none)
-  unread book end.FileFault none h = h
+  unread book end.FileFault none h = (h.0.0, h.1)
   unread book end.Memory none h = tt
   unread book end.Done none h = absurd h
   unread book (end.GoalFailed line) none h = absurd h
@@ -151,37 +157,7 @@ module _ {A : Type 0} (gate : Gate A) (words : List (List ℕ)) (files : Shelf) 
   -- what a run left tells why it ended so
   pub caused : (way : End) → Leaves gate words files o admin l way → Cause l.book way
   caused way (inl h) = unread l.book way h.3.drain h.0
-  caused way (inr a) = left_so a.asked a.means a.file l.book way a.answered
-
-  -- the status 2
-  pub usage : (way : End) → status_of way ≡ 2 → Cause l.book way → IsUnasked words (length o.copiers)
-  usage end.Usage e h = h
-  usage end.Done e h = absurd (omega (arith, e))
-  usage (end.Refused line) e h = absurd (omega (arith, e))
-  usage (end.GoalFailed line) e h = absurd (omega (arith, e))
-  usage end.FileFault e h = absurd (omega (arith, e))
-  usage end.ReadFault e h = absurd (omega (arith, e))
-  usage end.WriteFault e h = absurd (omega (arith, e))
-  usage end.NotDrained e h = absurd (omega (arith, e))
-  usage end.Memory e h = absurd (omega (arith, e))
-  usage end.InputCut e h = absurd (omega (arith, e))
-  usage end.TraceRefused e h = absurd (omega (arith, e))
-  usage end.ListenerFault e h = absurd (omega (arith, e))
-
-  -- the status 3: the line is told, and no other
-  pub refused_told : (way : End) → status_of way ≡ 3 → Cause l.book way → (old new : Option (List ℕ)) (before now : ℕ) → IsTold (lines_of l.drain way) old new before now → (line : List ℕ) × IsLiveRefusal words files line × IsTold line old new before now
-  refused_told (end.Refused line) e h old new before now told = (line.items, h.0, subst (λ (d : Option DrainEnd). IsTold (lines_of d (end.Refused line)) old new before now) h.1 told)
-  refused_told end.Usage e h old new before now told = absurd (omega (arith, e))
-  refused_told end.Done e h old new before now told = absurd (omega (arith, e))
-  refused_told (end.GoalFailed line) e h old new before now told = absurd (omega (arith, e))
-  refused_told end.FileFault e h old new before now told = absurd (omega (arith, e))
-  refused_told end.ReadFault e h old new before now told = absurd (omega (arith, e))
-  refused_told end.WriteFault e h old new before now told = absurd (omega (arith, e))
-  refused_told end.NotDrained e h old new before now told = absurd (omega (arith, e))
-  refused_told end.Memory e h old new before now told = absurd (omega (arith, e))
-  refused_told end.InputCut e h old new before now told = absurd (omega (arith, e))
-  refused_told end.TraceRefused e h old new before now told = absurd (omega (arith, e))
-  refused_told end.ListenerFault e h old new before now told = absurd (omega (arith, e))
+  caused way (inr a) = left_so a.call.asked a.call.means a.file l.book way a.answered
 
   -- a file that is refused has no meaning
   no_meaning : (bytes : List ℕ) (m : Meaning) (fault : Fault) → Means bytes m → IsRefused bytes fault → ⊥
@@ -191,40 +167,45 @@ module _ {A : Type 0} (gate : Gate A) (words : List (List ℕ)) (files : Shelf) 
   pub whole : IsLiveGiven words files o → (way : End) → Cause l.book way → (status_of way ≡ 0) ⊎ (status_of way ≡ 9) ⊎ HasLiveFailed gate files o admin l
   whole given end.Done h = inl refl
   whole given end.Memory h = inr (inl refl)
-  whole given end.Usage h = absurd (is_asked words (length o.copiers) given.asked given.means given.enough h)
+  whole given end.Usage h = absurd (called words (length o.copiers) given.call h)
   whole given (end.Refused line) h =
       let refused = h.0 in
-      let same : refused.asked ≡ given.asked = same_asked words refused.asked given.asked refused.means given.means in
-      let told : IfSome (files.told given.asked.file) (λ bytes. IsRefused bytes refused.fault) = subst (λ (a : LiveAsked). IfSome (files.told a.file) (λ bytes. IsRefused bytes refused.fault)) same refused.refused in
-      absurd (no_meaning given.bytes given.file refused.fault given.meant (if_told (files.told given.asked.file) (λ bytes. IsRefused bytes refused.fault) given.bytes given.told told))
+      let same : refused.call.asked ≡ given.call.asked = same_asked words refused.call.asked given.call.asked refused.call.means given.call.means in
+      let told : IfSome (files.told given.call.asked.file) (λ bytes. IsRefused bytes refused.fault) = subst (λ (a : LiveAsked). IfSome (files.told a.file) (λ bytes. IsRefused bytes refused.fault)) same refused.refused in
+      absurd (no_meaning given.bytes given.file refused.fault given.meant (if_told (files.told given.call.asked.file) (λ bytes. IsRefused bytes refused.fault) given.bytes given.told told))
   whole given end.FileFault h = inr (inr (inl h.1))
   whole given end.ReadFault h = inr (inr (inr (inl h)))
   whole given end.WriteFault h = inr (inr (inr (inr (inl h))))
   whole given end.ListenerFault h = inr (inr (inr (inr (inr (inl h)))))
   whole given end.NotDrained h = inr (inr (inr (inr (inr (inr h)))))
   whole given end.InputCut h =
-      let same : h.asked ≡ given.asked = same_asked words h.asked given.asked h.means given.means in
+      let same : h.asked ≡ given.call.asked = same_asked words h.asked given.call.asked h.means given.call.means in
       let served : IsServed None o.console.left = subst (λ (s : Option ServingAsked). IsServed s o.console.left) (sym (ap (λ (a : LiveAsked). a.crew.serving) same) ∙ h.of_console) given.served in
       absurd (never_cut served.stream h.raws h.why served.whole h.cut (h.stops served.stream served.told))
   whole given (end.GoalFailed line) h = absurd h
   whole given end.TraceRefused h = absurd h
 
-  -- a file with a fault is refused, unless the words, the files or memory stand in the way
-  pub refuses : (bytes : List ℕ) (asked : LiveAsked) (fault : Fault) → live_command words ≡ Some asked → files.told asked.file ≡ Some bytes → IsRefused bytes fault → (way : End) → Leaves gate words files o admin l way
-      → (status_of way ≡ 2) ⊎ (status_of way ≡ 3) ⊎ (status_of way ≡ 5) ⊎ (status_of way ≡ 9)
-  refuses bytes asked fault means told refused way (inr a) =
-      let same : a.asked ≡ asked = same_asked words a.asked asked a.means means in
-      let meant : IfSome (files.told asked.file) (λ b. Means b a.file) = subst (λ (x : LiveAsked). IfSome (files.told x.file) (λ b. Means b a.file)) same a.meant in
-      absurd (no_meaning bytes a.file fault (if_told (files.told asked.file) (λ b. Means b a.file) bytes told meant) refused)
-  refuses bytes asked fault means told refused end.Usage (inl h) = inl refl
-  refuses bytes asked fault means told refused (end.Refused line) (inl h) = inr (inl refl)
-  refuses bytes asked fault means told refused end.FileFault (inl h) = inr (inr (inl refl))
-  refuses bytes asked fault means told refused end.Memory (inl h) = inr (inr (inr refl))
-  refuses bytes asked fault means told refused end.Done (inl h) = absurd h.0
-  refuses bytes asked fault means told refused (end.GoalFailed line) (inl h) = absurd h.0
-  refuses bytes asked fault means told refused end.ReadFault (inl h) = absurd h.0
-  refuses bytes asked fault means told refused end.WriteFault (inl h) = absurd h.0
-  refuses bytes asked fault means told refused end.NotDrained (inl h) = absurd h.0
-  refuses bytes asked fault means told refused end.InputCut (inl h) = absurd h.0
-  refuses bytes asked fault means told refused end.TraceRefused (inl h) = absurd h.0
-  refuses bytes asked fault means told refused end.ListenerFault (inl h) = absurd h.0
+  -- words that are no command, or ask for too many copiers
+  pub unasked : IsUnasked words (length o.copiers) → (way : End) → Leaves gate words files o admin l way → (status_of way ≡ 2) ⊎ (status_of way ≡ 9)
+  unasked none way (inr a) = absurd (called words (length o.copiers) a.call none)
+  unasked none end.Usage (inl h) = inl refl
+  unasked none end.Memory (inl h) = inr refl
+  unasked none (end.Refused line) (inl h) = absurd (called words (length o.copiers) h.0.call none)
+  unasked none end.FileFault (inl h) = absurd (called words (length o.copiers) h.0.0.0 none)
+  unasked none _ (inl h) = absurd h.0
+
+  -- a file with a fault is refused, unless the files or memory stand in the way
+  module _ (call : IsCalled words (length o.copiers)) (bytes : List ℕ) (fault : Fault) (told : files.told call.asked.file ≡ Some bytes) (refused : IsRefused bytes fault) where
+    meaningless : (a : IsCalled words (length o.copiers)) (m : Meaning) → IfSome (files.told a.asked.file) (λ b. Means b m) → ⊥
+    meaningless a m h =
+        let same : a.asked ≡ call.asked = same_asked words a.asked call.asked a.means call.means in
+        let meant : IfSome (files.told call.asked.file) (λ b. Means b m) = subst (λ (x : LiveAsked). IfSome (files.told x.file) (λ b. Means b m)) same h in
+        absurd (no_meaning bytes m fault (if_told (files.told call.asked.file) (λ b. Means b m) bytes told meant) refused)
+
+    pub refuses : (way : End) → Leaves gate words files o admin l way → (status_of way ≡ 3) ⊎ (status_of way ≡ 5) ⊎ (status_of way ≡ 9)
+    refuses way (inr a) = absurd (meaningless a.call a.file a.meant)
+    refuses (end.Refused line) (inl h) = inl refl
+    refuses end.FileFault (inl h) = inr (inl refl)
+    refuses end.Memory (inl h) = inr (inr refl)
+    refuses end.Usage (inl h) = absurd (called words (length o.copiers) call h.0.0)
+    refuses _ (inl h) = absurd h.0

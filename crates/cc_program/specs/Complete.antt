@@ -1,5 +1,5 @@
 -- When a run with threads ends so, and when it has to end well.
-use Rattle.std.specs.Prelude.{◌≡◌, ◌<◌, ◌≤◌, ◌⊎◌, ℕ, List, length, Option, Some, None}
+use Rattle.std.specs.Prelude.{◌≡◌, ◌≤◌, ◌⊎◌, ℕ, List, length, Option, Some, None}
 use Rattle.cc_base.specs.Outside.{HasRisen}
 use Rattle.cluster_json.specs.File.{Meaning}
 use Rattle.control_core.specs.Books.{BookView}
@@ -10,7 +10,7 @@ use Rattle.rest_stream.specs.declared.raw.RawRequest.{RawRequest}
 use Rattle.rest_stream.specs.declared.raw.Stop.{Stop}
 use Rattle.quiet_commands.specs.Input.{Means}
 use Rattle.live_service.specs.Asked.{ServingAsked}
-use Rattle.cc_program.specs.Lives.{Gate, IsLiveRefusal, IsUnasked, LiveAsked, Shelf, copiers_before, live_command}
+use Rattle.cc_program.specs.Lives.{Gate, IsCalled, IsLiveRefusal, IsUnasked, LiveAsked, Shelf, live_command}
 use Rattle.cc_program.specs.Outside.{LeftView, OutsideView}
 use Rattle.quiet_commands.specs.declared.ends.End.{End}
 use Rattle.quiet_commands.specs.declared.ends.End.TheVariants.{Usage, Refused, GoalFailed, FileFault, ReadFault, WriteFault, NotDrained, InputCut, TraceRefused, ListenerFault}
@@ -43,11 +43,11 @@ HasFailedBy gate admin back (Some c) = HasFailedLate c
 abbrev pub AdminFailed : {A : Type 0} → Gate A → A → LeftView A → Type 0
 AdminFailed gate admin l = HasFailedBy gate admin l.admin l.book
 
--- why a run ended so that left this book
+-- why a run ended so that left this book. It ends neither by a goal nor by a trace
 abbrev pub IsCauseBy : {A : Type 0} → Gate A → List (List ℕ) → Shelf → OutsideView → A → LeftView A → Option (BookView A) → End → Type 0
 IsCauseBy gate words files o admin l book Usage = IsUnasked words (length o.copiers)
-IsCauseBy gate words files o admin l book (Refused line) = IsLiveRefusal words files line.items × (l.drain ≡ None)
-IsCauseBy gate words files o admin l book FileFault = ((asked : LiveAsked) × (live_command words ≡ Some asked)) × HasRisen files.before files.now
+IsCauseBy gate words files o admin l book (Refused line) = IsLiveRefusal words (length o.copiers) files line.items × (l.drain ≡ None)
+IsCauseBy gate words files o admin l book FileFault = IsCalled words (length o.copiers) × HasRisen files.before files.now
 IsCauseBy gate words files o admin l book ReadFault = HasRisen o.console.reads l.outside.console.reads
 IsCauseBy gate words files o admin l book WriteFault = HasRisen o.console.writes l.outside.console.writes
 IsCauseBy gate words files o admin l book NotDrained = HasFailedBy gate admin l.admin book
@@ -73,11 +73,9 @@ IsServed (Some serving) left = Unit {0}
 
 -- the words are a command with threads, the copiers suffice, the file has a meaning, and the input is what the command needs
 pub record IsLiveGiven (words : List (List ℕ)) (files : Shelf) (o : OutsideView) : Type 0 where
-  pub asked : LiveAsked
-  pub means : live_command words ≡ Some asked
-  pub enough : copiers_before asked.crew < length o.copiers
+  pub call : IsCalled words (length o.copiers)
   pub bytes : List ℕ
-  pub told : files.told asked.file ≡ Some bytes
+  pub told : files.told call.asked.file ≡ Some bytes
   pub file : Meaning
   pub meant : Means bytes file
-  pub served : IsServed asked.crew.serving o.console.left
+  pub served : IsServed call.asked.crew.serving o.console.left

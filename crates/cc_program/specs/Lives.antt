@@ -1,6 +1,6 @@
 -- What `session` does beside movers and planners, and what `serve` does: requests of the console, or of links, are answered over a book that
 -- all share.
-use Rattle.std.specs.Prelude.{◌≡◌, ◌≤◌, ◌⊎◌, ◌+◌, ◌||◌, ℕ, Bool, true, false, List, [], length, map, Option, Some, None, IfSome, option_and_then, option_map, string_bytes}
+use Rattle.std.specs.Prelude.{◌≡◌, ◌≤◌, ◌<◌, ◌⊎◌, ◌+◌, ◌||◌, ℕ, Bool, true, false, List, [], length, map, Option, Some, None, IfSome, option_and_then, option_map, string_bytes}
 use Rattle.std.specs.List.{insert, list_any}
 use Rattle.cc_base.specs.Outside.{HasRisen, with_name}
 use Rattle.cluster_json.specs.Faults.{Fault}
@@ -196,22 +196,26 @@ shelf contents faults log old new = record {
 abbrev pub IsLoaded : Shelf → LiveAsked → Type 0
 IsLoaded files asked = files.log_now ≡ with_name files.log_before asked.file
 
--- the words ask it for a file, and P holds of what is asked and of what the file means
-pub record IsLiveAnswer (words : List (List ℕ)) (files : Shelf) (P : LiveAsked → Meaning → Type 0) : Type 0 where
+-- the words ask for it, and there is a copier for each mover and each link, and one more
+pub record IsCalled (words : List (List ℕ)) (copiers : ℕ) : Type 0 where
   pub asked : LiveAsked
   pub means : live_command words ≡ Some asked
-  pub loaded : IsLoaded files asked
-  pub file : Meaning
-  pub meant : IfSome (files.told asked.file) (λ bytes. Means bytes file)
-  pub answered : P asked file
+  pub enough : copiers_before asked.crew < copiers
 
--- the words ask it for a file that is refused, and the line tells its first fault
-pub record IsLiveRefusal (words : List (List ℕ)) (files : Shelf) (line : List ℕ) : Type 0 where
-  pub asked : LiveAsked
-  pub means : live_command words ≡ Some asked
-  pub loaded : IsLoaded files asked
+-- just the file that is asked for was loaded, and P holds of what is asked and of what the file means
+pub record IsLiveAnswer (words : List (List ℕ)) (copiers : ℕ) (files : Shelf) (P : LiveAsked → Meaning → Type 0) : Type 0 where
+  pub call : IsCalled words copiers
+  pub loaded : IsLoaded files call.asked
+  pub file : Meaning
+  pub meant : IfSome (files.told call.asked.file) (λ bytes. Means bytes file)
+  pub answered : P call.asked file
+
+-- just the file that is asked for was loaded; it is refused, and the line tells its first fault
+pub record IsLiveRefusal (words : List (List ℕ)) (copiers : ℕ) (files : Shelf) (line : List ℕ) : Type 0 where
+  pub call : IsCalled words copiers
+  pub loaded : IsLoaded files call.asked
   pub fault : Fault
-  pub refused : IfSome (files.told asked.file) (λ bytes. IsRefused bytes fault)
+  pub refused : IfSome (files.told call.asked.file) (λ bytes. IsRefused bytes fault)
   pub line_is : line ≡ refusal_line fault
 
 -- the words ask for more copiers than there are beside that of the console
@@ -224,16 +228,34 @@ pub record IsTooMany (words : List (List ℕ)) (copiers : ℕ) : Type 0 where
 abbrev pub IsUnasked : List (List ℕ) → ℕ → Type 0
 IsUnasked words copiers = (live_command words ≡ None) ⊎ IsTooMany words copiers
 
+-- just that file was loaded, or none
+abbrev pub IsLoadedOnce : Shelf → LiveAsked → Type 0
+IsLoadedOnce files asked = (files.log_now ≡ files.log_before) ⊎ IsLoaded files asked
+
+-- what was loaded where memory ran out before a file was read
+abbrev pub IsForgone : List (List ℕ) → ℕ → Shelf → Type 0
+IsForgone words copiers files = (files.log_now ≡ files.log_before) ⊎ ((call : IsCalled words copiers) × IsLoaded files call.asked)
+
 -- why no file was read, by how the run ended
 abbrev pub IsUnread : List (List ℕ) → ℕ → Shelf → End → Type 0
 IsUnread words copiers files Usage = IsUnasked words copiers × (files.log_now ≡ files.log_before)
-IsUnread words copiers files (Refused line) = IsLiveRefusal words files line.items
-IsUnread words copiers files FileFault = ((asked : LiveAsked) × (live_command words ≡ Some asked)) × HasRisen files.before files.now
-IsUnread words copiers files Memory = Unit {0}
+IsUnread words copiers files (Refused line) = IsLiveRefusal words copiers files line.items
+IsUnread words copiers files FileFault = ((call : IsCalled words copiers) × IsLoadedOnce files call.asked) × HasRisen files.before files.now
+IsUnread words copiers files Memory = IsForgone words copiers files
 IsUnread words copiers files _ = ⊥
 
 -- what a run left: no file was read, and the admin comes back; or what is left of the file that the words ask for
 abbrev pub Leaves : {A : Type 0} → Gate A → List (List ℕ) → Shelf → OutsideView → A → LeftView A → End → Type 0
 Leaves gate words files o admin l end =
     (IsUnread words (length o.copiers) files end × (l.book ≡ None) × (l.admin ≡ Some admin) × IsIdle o l)
-    ⊎ IsLiveAnswer words files (λ asked m. IsLeft gate m asked.crew o admin l end)
+    ⊎ IsLiveAnswer words (length o.copiers) files (λ asked m. IsLeft gate m asked.crew o admin l end)
+
+-- a run: what it was given, what it left, and how it ended
+pub record LiveRun {A : Type 0} (gate : Gate A) : Type 0 where
+  pub words : List (List ℕ)
+  pub files : Shelf
+  pub outside : OutsideView
+  pub admin : A
+  pub left : LeftView A
+  pub end : End
+  pub leaves : Leaves gate words files outside admin left end

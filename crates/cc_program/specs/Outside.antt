@@ -1,5 +1,5 @@
--- What a run with threads works with outside its book, and what it leaves.
-use Rattle.std.specs.Prelude.{List, Option}
+-- What a run works with outside its book, and what it leaves.
+use Rattle.std.specs.Prelude.{List, [], Option, None}
 use Rattle.control_core.specs.Books.{BookView}
 use Rattle.live_service.specs.Views.{LinkView, NetView, ServedView}
 use Rattle.mover_rounds.specs.Made.{Copies}
@@ -22,3 +22,7 @@ pub record LeftView (A : Type 0) : Type 0 where
   pub links : List ServedView
   pub movers : List LoopEnd
   pub planners : List LoopEnd
+
+-- no book was begun, and nobody worked
+abbrev pub idle : {A : Type 0} → Option A → OutsideView → LeftView A
+idle admin outside = record { book = None; admin = admin; drain = None; outside = outside; links = []; movers = []; planners = [] }

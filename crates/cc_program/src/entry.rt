@@ -1,16 +1,15 @@
 // The whole program, once the outside was made.
-ghost use Rattle.std.specs.Prelude.{◌≡◌, IfErr, IfOk, Option, None, map, string_bytes, vec_len};
+ghost use Rattle.std.specs.Prelude.{◌≡◌, IfErr, IfOk, map, string_bytes, vec_len};
 ghost use Rattle.std.specs.Process.{exit_status};
 ghost use Rattle.std.specs.IoError.{error_kind};
 ghost use Rattle.quiet_commands.specs.Ends.{IsTold, lines_of, status_of};
-ghost use Rattle.cc_program.specs.Entry.{AsWanted, IsWordless, RunsAlone, RunsLive};
+ghost use Rattle.cc_program.specs.Entry.{AsWanted, IsKept, IsWordless, RanAlone, RunsLive};
 ghost use Rattle.cc_program.specs.Lives.{gate};
 ghost use Rattle.live_service.specs.Views.{link_of, net_of};
-ghost use Rattle.mover_rounds.specs.declared.drains.DrainEnd.{DrainEnd};
 ghost use Rattle.quiet_commands.specs.declared.ends.End.{End};
 
 use crate::lives::run_live;
-use crate::outside::Outside;
+use crate::outside::{Ended, Left, Outside};
 use cc_base::{Files, Link, Sink};
 use cluster_gate::{Admin, Copier, MemoryCluster, MemoryCopier};
 use command_words::wants_live;
@@ -25,6 +24,9 @@ use std::sync::Wait;
 use std::thread::Threads;
 
 const COPIERS: usize = 129;
+
+/// What is left of a run over a cluster in memory.
+pub type Kept<L, N> = Left<MemoryCluster, MemoryCopier, L, N>;
 
 // How a run ends whose words can't be had: for want of memory, or for a word that is no text.
 fn end_without_words(kind: ErrorKind) -> End
@@ -56,6 +58,21 @@ fn copiers(alloc: Global) -> Result<Vec<MemoryCopier>, Memory>
     )
 }
 
+// The console and the listener, where no run with threads began.
+fn lent<L: Link, N: Listener>(alloc: Global, console: L, listener: N) -> Kept<L, N>
+where
+    N::Conn: Drop,
+    ensures { IsKept (link_of L.left L.written L.Source.faults L.Sink.faults console)
+        (net_of N.faults N.accepted N.heard listener) result }
+{
+    let outside = Outside {
+        copiers: Vec::new(alloc),
+        console,
+        listener,
+    };
+    Left::idle(alloc, None, outside)
+}
+
 // Runs words that want a run with threads, over a cluster in memory.
 fn run_threads<
     R: Threads + Wait + Sync,
@@ -71,19 +88,20 @@ fn run_threads<
     console: L,
     listener: N,
     err: &mut O,
-) -> ExitCode
+) -> (ExitCode, Kept<L, N>)
 where
     N::Conn: Send + Drop,
-    ensures { (end : End) × (drain : Option DrainEnd) × (exit_status result ≡ status_of end)
-        × IsTold (lines_of drain end) (O.written err.old) (O.written err.new) (O.faults err.old)
-        (O.faults err.new)
+    ensures { (end : End) × (exit_status result.0 ≡ status_of end)
+        × IsTold (lines_of result.1.drain end) (O.written err.old) (O.written err.new)
+        (O.faults err.old) (O.faults err.new)
         × RunsLive (gate ⟦<MemoryCluster as Admin>⟧.faults ⟦<MemoryCluster as Admin>⟧.told) F.Files
         (map string_bytes words.now) files.old files.new
         (link_of L.left L.written L.Source.faults L.Sink.faults console)
-        (net_of N.faults N.accepted N.heard listener) drain end }
+        (net_of N.faults N.accepted N.heard listener) result.1 end }
 {
     let Ok(copiers) = copiers(alloc) else {
-        return exit_code(conclude(err, &End::Memory, None));
+        let code = exit_code(conclude(err, &End::Memory, None));
+        return (code, lent(alloc, console, listener));
     };
     let outside = Outside {
         copiers,
@@ -91,13 +109,15 @@ where
         listener,
     };
     let admin = MemoryCluster::new(alloc);
-    let ended = run_live(rt, alloc, words, files, err, admin, outside);
-    exit_code(ended.status)
+    let Ended { status, left } = run_live(rt, alloc, words, files, err, admin, outside);
+    (exit_code(status), left)
 }
 
 /// Runs the words, if they can be had: [`run_live`] over a cluster in memory where they want
-/// threads, else [`run_quiet`]. The code is the status of how that ended, and the error stream has
-/// its line. Words that can't be had end out of memory, or as a usage error where one is no text.
+/// threads, else [`run_quiet`](crate::run_quiet). The code is the status of how that ended, and the
+/// error stream has its line. The console and the listener come back, with what a run with threads
+/// leaves. Words that can't be had end out of memory, or as a usage error where one is no text, and
+/// nothing is done.
 pub fn run_words<
     R: Threads + Wait + Sync,
     F: Files,
@@ -112,28 +132,35 @@ pub fn run_words<
     mut console: L,
     listener: N,
     err: &mut O,
-) -> ExitCode
+) -> (ExitCode, Kept<L, N>)
 where
     N::Conn: Send + Drop,
-    ensures { (end : End) × (drain : Option DrainEnd) × (exit_status result ≡ status_of end)
-        × IsTold (lines_of drain end) (O.written err.old) (O.written err.new) (O.faults err.old)
-        (O.faults err.new)
-        × IfErr words (λ e. IsWordless (error_kind e) end × (drain ≡ None))
+    ensures { (end : End) × (exit_status result.0 ≡ status_of end)
+        × IsTold (lines_of result.1.drain end) (O.written err.old) (O.written err.new)
+        (O.faults err.old) (O.faults err.new)
+        × IfErr words (λ e. IsWordless (error_kind e) end × (files.new ≡ files.old)
+        × IsKept (link_of L.left L.written L.Source.faults L.Sink.faults console)
+        (net_of N.faults N.accepted N.heard listener) result.1)
         × IfOk words (λ given. AsWanted (map string_bytes given.items)
         (RunsLive (gate ⟦<MemoryCluster as Admin>⟧.faults ⟦<MemoryCluster as Admin>⟧.told) F.Files
         (map string_bytes given.items) files.old files.new
         (link_of L.left L.written L.Source.faults L.Sink.faults console)
-        (net_of N.faults N.accepted N.heard listener) drain end)
-        (RunsAlone F.Files L.Source L.Sink (map string_bytes given.items) files.old files.new
-        console drain end)) }
+        (net_of N.faults N.accepted N.heard listener) result.1 end)
+        (RanAlone F.Files (map string_bytes given.items) files.old files.new
+        (link_of L.left L.written L.Source.faults L.Sink.faults console)
+        (net_of N.faults N.accepted N.heard listener) result.1 end)) }
 {
     match words {
         Ok(words) => {
             if wants_live(&words) {
                 return run_threads(rt, alloc, &words, files, console, listener, err);
             }
-            exit_code(run_quiet(rt, alloc, &words, files, &mut console, err))
+            let status = run_quiet(rt, alloc, &words, files, &mut console, err);
+            (exit_code(status), lent(alloc, console, listener))
         }
-        Err(e) => exit_code(conclude(err, &end_without_words(e.kind()), None)),
+        Err(e) => {
+            let code = exit_code(conclude(err, &end_without_words(e.kind()), None));
+            (code, lent(alloc, console, listener))
+        }
     }
 }

@@ -4,12 +4,8 @@ ghost use Rattle.std.specs.List.{insert, list_any};
 ghost use Rattle.cluster_json.specs.Ranges.{IsFile};
 ghost use Rattle.cluster_json.specs.Views.{file_seen};
 ghost use Rattle.control_core.specs.Books.{opened};
-ghost use Rattle.cc_base.specs.Outside.{HasRisen};
-ghost use Rattle.cluster_json.specs.Faults.{Fault};
-ghost use Rattle.cc_program.specs.Complete.{AdminFailed, HasLiveFailed, IsCutSession, IsLiveCause, IsLiveGiven};
 ghost use Rattle.quiet_commands.specs.Ends.{IsTold, lines_of, status_of};
-ghost use Rattle.quiet_commands.specs.Input.{IsRefused};
-ghost use Rattle.cc_program.specs.Lives.{IsLeft, IsLiveRefusal, IsOver, IsTeamOf, IsUnasked, Leaves, LiveAsked, copiers_before, crew_told, ended_live, gate, is_loop_want, live_command, live_told, or_want, shelf, wanted};
+ghost use Rattle.cc_program.specs.Lives.{IsLeft, IsOver, IsTeamOf, IsUnasked, Leaves, copiers_before, crew_told, ended_live, gate, is_loop_want, live_command, live_told, or_want, shelf, wanted};
 ghost use Rattle.cc_program.specs.Outside.{OutsideView};
 ghost use Rattle.quiet_commands.specs.declared.ends.End.{End};
 ghost use Rattle.live_service.specs.Asked.{IsReady, links_of};
@@ -45,36 +41,6 @@ pub struct Crew {
 pub struct LiveRequest {
     pub file: String,
     pub crew: Crew,
-}
-
-// What is left of a run that ended before a book was begun.
-fn unbegun<A: Admin, K: Copier, L: Link, N: Listener>(
-    alloc: Global,
-    admin: A,
-    outside: Outside<K, L, N>,
-) -> Left<A, K, L, N>
-where
-    N::Conn: Drop,
-    ensures { result
-        ≡ record {
-          book = None;
-          admin = Some admin;
-          drain = None;
-          outside = outside;
-          links = [];
-          movers = [];
-          planners = [];
-        } }
-{
-    Left {
-        book: None,
-        admin: Some(admin),
-        drain: None,
-        outside,
-        links: Vec::new(alloc),
-        movers: Vec::new(alloc),
-        planners: Vec::new(alloc),
-    }
 }
 
 // What the words ask of a run with threads.
@@ -385,7 +351,7 @@ where
 {
     let team = match team_of(alloc, outside, &crew) {
         Ok(team) => team,
-        Err(outside) => return (End::Memory, unbegun(alloc, admin, outside)),
+        Err(outside) => return (End::Memory, Left::idle(alloc, Some(admin), outside)),
     };
     match Book::begin(alloc, file, admin) {
         Ok(book) => live(rt, alloc, book, team, crew),
@@ -400,6 +366,7 @@ where
     }
 }
 
+// Runs the words, where the files and the copiers suffice.
 fn run<
     F: Files,
     A: Admin + Send,
@@ -421,51 +388,21 @@ where
     ensures leaves { Leaves (gate A.faults A.told) (map string_bytes words.now)
         (shelf F.contents F.faults F.log files.old files.new)
         outside admin result.1 result.0 }
-    ensures unasked { IsUnasked (map string_bytes words.now) (length outside.copiers)
-        → (result.0 ≡ End.Usage) ⊎ (result.0 ≡ End.Memory) }
 {
-    let LiveRequest { file, crew } = match asked_live(alloc, words, outside.copiers.len()) {
+    let LiveRequest { file, crew } = match asked_live(alloc, words, outside.count()) {
         Ok(request) => request,
-        Err(WordsFault::Usage) => return (End::Usage, unbegun(alloc, admin, outside)),
-        Err(WordsFault::Memory) => return (End::Memory, unbegun(alloc, admin, outside)),
+        Err(WordsFault::Usage) => return (End::Usage, Left::idle(alloc, Some(admin), outside)),
+        Err(WordsFault::Memory) => return (End::Memory, Left::idle(alloc, Some(admin), outside)),
     };
     match load(alloc, files, &Request::Session { file }) {
         Ok(file) => begin(rt, alloc, file, admin, outside, crew),
-        Err(LoadFault::Refused(line)) => (End::Refused(line), unbegun(alloc, admin, outside)),
-        Err(LoadFault::Failed) => (End::FileFault, unbegun(alloc, admin, outside)),
-        Err(LoadFault::Memory) => (End::Memory, unbegun(alloc, admin, outside)),
+        Err(LoadFault::Refused(line)) => (
+            End::Refused(line),
+            Left::idle(alloc, Some(admin), outside),
+        ),
+        Err(LoadFault::Failed) => (End::FileFault, Left::idle(alloc, Some(admin), outside)),
+        Err(LoadFault::Memory) => (End::Memory, Left::idle(alloc, Some(admin), outside)),
     }
-}
-
-// The same, with the cause of how it ended.
-fn run_for_cause<
-    F: Files,
-    A: Admin + Send,
-    K: Copier + Send + Drop,
-    L: Link + Drop,
-    N: Listener + Send + Drop,
-    R: Threads + Wait + Sync,
->(
-    rt: &R,
-    alloc: Global,
-    words: &[String],
-    files: &mut F,
-    admin: A,
-    outside: Outside<K, L, N>,
-) -> (End, Left<A, K, L, N>)
-where
-    N::Conn: Send + Drop,
-    ensures files { F.faults files.old ≤ F.faults files.new }
-    ensures leaves { Leaves (gate A.faults A.told) (map string_bytes words.now)
-        (shelf F.contents F.faults F.log files.old files.new)
-        outside admin result.1 result.0 }
-    ensures unasked { IsUnasked (map string_bytes words.now) (length outside.copiers)
-        → (result.0 ≡ End.Usage) ⊎ (result.0 ≡ End.Memory) }
-    ensures cause { IsLiveCause (gate A.faults A.told) (map string_bytes words.now)
-        (shelf F.contents F.faults F.log files.old files.new)
-        outside admin result.1 result.0 }
-{
-    run(rt, alloc, words, files, admin, outside)
 }
 
 /// Runs `session` beside movers and planners, or `serve`, over a book that requests, movers and
@@ -476,7 +413,7 @@ where
 /// that ended inside a request or couldn't be framed, and 12 for a fault of the listener. `serve`
 /// neither reads nor writes the console, and a link that ends by a fault changes no status. One
 /// line on any end but 0 goes to `err`, and `not drained` behind it where that is another one and
-/// the drain failed.
+/// the drain failed. What each status comes of is in [`every_live_run`](crate::every_live_run).
 pub fn run_live<
     F: Files,
     O: Sink,
@@ -504,51 +441,10 @@ where
         outside admin result.left end
         × IsTold (lines_of result.left.drain end) (O.written err.old) (O.written err.new)
         (O.faults err.old) (O.faults err.new) }
-    ensures statuses { (result.status ≡ 0) ⊎ (result.status ≡ 2) ⊎ (result.status ≡ 3)
-        ⊎ (result.status ≡ 5) ⊎ (result.status ≡ 6) ⊎ (result.status ≡ 7) ⊎ (result.status ≡ 8)
-        ⊎ (result.status ≡ 9) ⊎ (result.status ≡ 10) ⊎ (result.status ≡ 12) }
-    // 2: only where the words are no such command, or ask for too many copiers, and there unless
-    // memory runs out.
-    ensures usage { result.status ≡ 2
-        → IsUnasked (map string_bytes words.now) (length outside.copiers) }
-    ensures refuses_words { IsUnasked (map string_bytes words.now) (length outside.copiers)
-        → (result.status ≡ 2) ⊎ (result.status ≡ 9) }
-    // 3: only where the file has a fault, whose line is told, and there unless the words, the files
-    // or memory stand in the way.
-    ensures refused { result.status ≡ 3
-        → (line : List ℕ)
-        × IsLiveRefusal (map string_bytes words.now)
-        (shelf F.contents F.faults F.log files.old files.new) line
-        × IsTold line (O.written err.old) (O.written err.new) (O.faults err.old)
-        (O.faults err.new) }
-    ensures refuses { (asked : LiveAsked) (bytes : List ℕ) (fault : Fault)
-        → live_command (map string_bytes words.now) ≡ Some asked
-        → F.contents files.old asked.file ≡ Some bytes → IsRefused bytes fault
-        → (result.status ≡ 2) ⊎ (result.status ≡ 3) ⊎ (result.status ≡ 5) ⊎ (result.status ≡ 9) }
-    // 5, 6, 7 and 12: only where the count of the files, of the input, of the output or of the
-    // listener rose.
-    ensures files { result.status ≡ 5 → HasRisen (F.faults files.old) (F.faults files.new) }
-    ensures input { result.status ≡ 6
-        → HasRisen outside.console.reads result.left.outside.console.reads }
-    ensures output { result.status ≡ 7
-        → HasRisen outside.console.writes result.left.outside.console.writes }
-    ensures listener { result.status ≡ 12 → HasRisen outside.net.faults result.left.outside.net.faults }
-    // 8: only where the admin's count rose, while the book was begun or behind its settling.
-    ensures admin { result.status ≡ 8 → AdminFailed (gate A.faults A.told) admin
-        result.left }
-    // 10: only of a session whose input ended inside a request, or has one that can't be framed.
-    ensures cut { result.status ≡ 10
-        → IsCutSession (map string_bytes words.now) outside.console.left }
-    // 0 or 9: wherever all that was given is as it should be, and no call outside failed.
-    ensures complete { IsLiveGiven (map string_bytes words.now)
-        (shelf F.contents F.faults F.log files.old files.new) outside
-        → (result.status ≡ 0) ⊎ (result.status ≡ 9)
-        ⊎ HasLiveFailed (gate A.faults A.told) (shelf F.contents F.faults F.log files.old files.new)
-        outside admin result.left }
     ensures files_later { F.faults files.old ≤ F.faults files.new }
     ensures err_later { O.faults err.old ≤ O.faults err.new }
 {
-    let (end, left) = run_for_cause(rt, alloc, words, files, admin, outside);
+    let (end, left) = run(rt, alloc, words, files, admin, outside);
     Ended {
         status: conclude(err, &end, left.drain),
         left,

@@ -1,4 +1,7 @@
-// What a run with threads works with outside its book, and what it leaves.
+// What a run works with outside its book, and what it leaves.
+ghost use Rattle.std.specs.Prelude.{◌≡◌, length};
+ghost use Rattle.cc_program.specs.Outside.{idle};
+
 use cc_base::Link;
 use cluster_gate::{Admin, Copier};
 use control_core::Book;
@@ -6,6 +9,7 @@ use live_service::Served;
 use mover_rounds::DrainEnd;
 use mover_workers::LoopEnd;
 use net_links::Listener;
+use std::alloc::Global;
 use std::marker::Model;
 
 /// What a run works with outside its book: copiers, a console, and a listener.
@@ -32,7 +36,16 @@ impl<K: Copier, L: Link, N: Listener> Model for Outside<K, L, N> {
     } };
 }
 
-/// What a run with threads leaves.
+impl<K: Copier, L: Link, N: Listener> Outside<K, L, N> {
+    /// How many copiers there are.
+    pub fn count(&self) -> usize
+        ensures { result ≡ length self.now.copiers }
+    {
+        self.copiers.len()
+    }
+}
+
+/// What a run leaves. Without threads there are no book, no admin and no copiers, and nobody worked.
 #[derive(Drop)]
 pub struct Left<A: Admin, K: Copier, L: Link, N: Listener>
 where
@@ -77,7 +90,31 @@ where
     } };
 }
 
-/// How a run with threads ended.
+impl<A: Admin, K: Copier, L: Link, N: Listener> Left<A, K, L, N>
+where
+    N::Conn: Drop,
+{
+    /// Where no book was begun: what was lent, with the admin where there is one.
+    pub(crate) fn idle(
+        alloc: Global,
+        admin: Option<A>,
+        outside: Outside<K, L, N>,
+    ) -> Left<A, K, L, N>
+        ensures { result ≡ idle admin outside }
+    {
+        Left {
+            book: None,
+            admin,
+            drain: None,
+            outside,
+            links: Vec::new(alloc),
+            movers: Vec::new(alloc),
+            planners: Vec::new(alloc),
+        }
+    }
+}
+
+/// How a run ended: with this status.
 #[derive(Drop)]
 pub struct Ended<A: Admin, K: Copier, L: Link, N: Listener>
 where

@@ -124,14 +124,14 @@ module _ (e : Edge) (m : Meaning) where
   well_traced (gen seed brokers partitions file ask) h = absurd h.1
   well_traced (session file) h = absurd (no_trace h.0.link h.0.drain h.1)
 
-  read_failed : (a : Asked) → Did a m e end.ReadFault → HasRisen e.io.in_before e.io.in_now
+  pub read_failed : (a : Asked) → Did a m e end.ReadFault → HasRisen e.io.in_before e.io.in_now
   read_failed (plan file trace ask) h = absurd h.1
   read_failed (check file trace ask) h = absurd h.1
   read_failed (apply file ask) h = absurd h.1
   read_failed (gen seed brokers partitions file ask) h = absurd h.1
   read_failed (session file) h = h.2.read_fault (was_read h.0.link h.0.drain h.1)
 
-  write_failed : (a : Asked) → Did a m e end.WriteFault → HasRisen e.io.out_before e.io.out_now
+  pub write_failed : (a : Asked) → Did a m e end.WriteFault → HasRisen e.io.out_before e.io.out_now
   write_failed (plan file trace ask) h = h.3
   write_failed (check file trace ask) h = h.3
   write_failed (apply file ask) h = h.3

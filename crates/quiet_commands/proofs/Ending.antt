@@ -11,7 +11,7 @@ use Rattle.mover_rounds.specs.declared.drains.DrainEnd.TheVariants as drain
 use Rattle.rest_session.specs.declared.session.LinkEnd.{LinkEnd}
 use Rattle.rest_session.specs.declared.session.LinkEnd.TheVariants as link
 use Rattle.quiet_commands.specs.Input.{Means}
-use Rattle.quiet_commands.specs.Runs.{Did, IsMade, LoadsAll, Logs, PerformLogs, Performs, Ran, Runs, with_files, with_more}
+use Rattle.quiet_commands.specs.Runs.{Did, IsMade, LoadsAll, LoadsSome, Logs, PerformLogs, Performs, Ran, Runs, with_files, with_more}
 use Rattle.quiet_commands.specs.declared.answers.Answer.{Answer}
 use Rattle.quiet_commands.specs.declared.ends.End.{End}
 use Rattle.quiet_commands.specs.declared.ends.End.TheVariants as end
@@ -105,20 +105,24 @@ module _ (words : List (List ℕ)) (asked : Asked) (means : command words ≡ So
   all_files (gen seed brokers partitions file ask) old = refl
   all_files (session file) old = refl
 
-  module _ (old mid new : Option (List (List ℕ))) (first : mid ≡ with_source old asked) where
-    all : new ≡ with_more mid asked → LoadsAll words old new
-    all h = record { asked = asked; means = means; log = h ∙ (ap (λ log. with_more log asked) first ∙ all_files asked old) }
+  pub first_loaded : (told : List ℕ → Option (List ℕ)) (old new : Option (List (List ℕ))) → (new ≡ old) ⊎ (new ≡ with_source old asked) → (new ≡ old) ⊎ LoadsSome words told old new
+  first_loaded told old new (inl h) = inl h
+  first_loaded told old new (inr h) = inr (record { asked = asked; means = means; log = inl h })
 
-    pub logged : (way : End) → PerformLogs asked mid new way → Logs words old new way
-    logged end.Done h = all h
+  module _ (told : List ℕ → Option (List ℕ)) (m : Meaning) (meant : IfSome (source_of told asked) (λ bytes. Means bytes m)) (old mid new : Option (List (List ℕ))) (first : mid ≡ with_source old asked) where
+    all_loaded : new ≡ with_more mid asked → new ≡ with_files old asked
+    all_loaded h = h ∙ (ap (λ log. with_more log asked) first ∙ all_files asked old)
+
+    all : new ≡ with_more mid asked → LoadsAll words old new
+    all h = record { asked = asked; means = means; log = all_loaded h }
+
+    some : (new ≡ mid) ⊎ (new ≡ with_more mid asked) → LoadsSome words told old new
+    some (inl h) = record { asked = asked; means = means; log = inl (h ∙ first) }
+    some (inr h) = record { asked = asked; means = means; log = inr (all_loaded h, (m, meant)) }
+
+    pub logged : (way : End) → PerformLogs asked mid new way → Logs words told old new way
     logged end.Usage h = absurd h
     logged (end.Refused line) h = absurd h
-    logged (end.GoalFailed line) h = all h
-    logged end.FileFault h = tt
-    logged end.ReadFault h = all h
-    logged end.WriteFault h = all h
-    logged end.NotDrained h = all h
-    logged end.Memory h = tt
-    logged end.InputCut h = all h
-    logged end.TraceRefused h = all h
-    logged end.ListenerFault h = all h
+    logged end.FileFault h = inr (some h)
+    logged end.Memory h = inr (some h)
+    logged _ h = all h

@@ -7,3 +7,4 @@ pub mod Streams
 pub mod Complete
 pub mod Blameless
 pub mod Telling
+pub mod Statuses

@@ -132,18 +132,35 @@ pub record LoadsFile (words : List (List ℕ)) (old new : Option (List (List ℕ
   pub means : command words ≡ Some asked
   pub log : new ≡ with_source old asked
 
+-- the words are a command, and its cluster file was loaded alone, if it has one; or all its files were, in their order, and the cluster's text
+-- has a meaning
+pub record LoadsSome (words : List (List ℕ)) (told : List ℕ → Option (List ℕ)) (old new : Option (List (List ℕ))) : Type 0 where
+  pub asked : Asked
+  pub means : command words ≡ Some asked
+  pub log : (new ≡ with_source old asked) ⊎ ((new ≡ with_files old asked) × ((m : Meaning) × IfSome (source_of told asked) (λ bytes. Means bytes m)))
+
 -- what each end says of the files that were loaded
-abbrev pub Logs : List (List ℕ) → Option (List (List ℕ)) → Option (List (List ℕ)) → End → Type 0
-Logs words old new Usage = new ≡ old
-Logs words old new (Refused line) = LoadsFile words old new
-Logs words old new FileFault = Unit {0}
-Logs words old new Memory = Unit {0}
-Logs words old new end = LoadsAll words old new
+abbrev pub Logs : List (List ℕ) → (List ℕ → Option (List ℕ)) → Option (List (List ℕ)) → Option (List (List ℕ)) → End → Type 0
+Logs words told old new Usage = new ≡ old
+Logs words told old new (Refused line) = LoadsFile words old new
+Logs words told old new FileFault = (new ≡ old) ⊎ LoadsSome words told old new
+Logs words told old new Memory = (new ≡ old) ⊎ LoadsSome words told old new
+Logs words told old new end = LoadsAll words old new
 
 -- the same once the cluster was read
 abbrev pub PerformLogs : Asked → Option (List (List ℕ)) → Option (List (List ℕ)) → End → Type 0
 PerformLogs asked old new Usage = ⊥
 PerformLogs asked old new (Refused line) = ⊥
-PerformLogs asked old new FileFault = Unit {0}
-PerformLogs asked old new Memory = Unit {0}
+PerformLogs asked old new FileFault = (new ≡ old) ⊎ (new ≡ with_more old asked)
+PerformLogs asked old new Memory = (new ≡ old) ⊎ (new ≡ with_more old asked)
 PerformLogs asked old new end = new ≡ with_more old asked
+
+-- a run: its words, what it did to the outside, the names of the files that were loaded before and after, and how it ended
+pub record QuietRun : Type 0 where
+  pub words : List (List ℕ)
+  pub edge : Edge
+  pub old : Option (List (List ℕ))
+  pub new : Option (List (List ℕ))
+  pub end : End
+  pub runs : Runs words edge end
+  pub logs : Logs words edge.told old new end

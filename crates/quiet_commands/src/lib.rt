@@ -9,6 +9,7 @@ mod commands;
 mod ends;
 mod gens;
 mod input;
+mod laws;
 mod planning;
 mod plans;
 mod quiet;
@@ -16,5 +17,6 @@ mod sessions;
 
 pub use commands::Request;
 pub use ends::{End, conclude};
+pub use laws::every_quiet_run;
 pub use quiet::{LoadFault, load, run_quiet};
 pub use sessions::{drained_end, ended_by};

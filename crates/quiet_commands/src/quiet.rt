@@ -1,18 +1,16 @@
 // The commands that wait for nobody.
-ghost use Rattle.std.specs.Prelude.{◌≡◌, ◌≤◌, ◌⊎◌, List, ℕ, map, Some, None, string_bytes, IfOk, IfSome, IsErrOf, OnErr, OnOk};
+ghost use Rattle.std.specs.Prelude.{◌≡◌, ◌≤◌, ◌⊎◌, map, string_bytes, IfOk, IfSome, IsErrOf, OnErr, OnOk};
 ghost use Rattle.cc_base.specs.Outside.{HasRisen, with_name};
-ghost use Rattle.cluster_json.specs.Faults.{Fault};
 ghost use Rattle.cluster_json.specs.Ranges.{IsFile};
 ghost use Rattle.cluster_json.specs.Reading.{fault_of};
 ghost use Rattle.cluster_json.specs.Views.{file_seen};
 ghost use Rattle.core_terms.specs.Asked.{goals_of};
 ghost use Rattle.quiet_commands.specs.Checked.{IsChecked};
-ghost use Rattle.quiet_commands.specs.Commands.{Asked, AsksSession, HasFile, IsInputKept, asked, command, source_of, with_source};
-ghost use Rattle.quiet_commands.specs.Complete.{HasFailed, IsWell, IsWellGiven};
+ghost use Rattle.quiet_commands.specs.Commands.{AsksSession, HasFile, IsInputKept, asked, source_of, with_source};
 ghost use Rattle.quiet_commands.specs.Edges.{edge_told};
 ghost use Rattle.quiet_commands.specs.Ends.{IsTold, line_of, status_of};
-ghost use Rattle.quiet_commands.specs.Input.{IsRefused, planned_for};
-ghost use Rattle.quiet_commands.specs.Runs.{AsksFile, IsRefusal, LoadLogs, Loads, LoadsAll, LoadsFile, Logs, PerformLogs, Performs, Ran, Runs, TellsRefusal};
+ghost use Rattle.quiet_commands.specs.Input.{planned_for};
+ghost use Rattle.quiet_commands.specs.Runs.{LoadLogs, Loads, Logs, PerformLogs, Performs, Runs, TellsRefusal};
 ghost use Rattle.quiet_commands.specs.declared.ends.End.{End};
 
 use crate::answers::{Answer, write};
@@ -114,6 +112,8 @@ fn check<F: Files, R: Threads + Sync>(
         (planned_for planning.now.ask (file_seen file)) (goals_of planning.now.ask) a.text.items
         a.end) }
     ensures log { OnOk result (F.log files.new ≡ with_name (F.log files.old) trace.now) }
+    ensures failed { OnErr result ((F.log files.new ≡ F.log files.old)
+        ⊎ (F.log files.new ≡ with_name (F.log files.old) trace.now)) }
 {
     let loaded = loaded_for(alloc, file, &planning.ask)?;
     let bytes = files.load(alloc, trace)?;
@@ -185,12 +185,8 @@ fn run<F: Files, L: Link, R: Threads + Sync>(
     ensures runs { Runs (map string_bytes words.now)
         (edge_told F.Files L.Source L.Sink files.old files.new console.old console.new) result }
     // Which files were loaded.
-    ensures logs { Logs (map string_bytes words.now) (F.log files.old) (F.log files.new) result }
-    ensures alone { (asked : Asked) (bytes : List ℕ) (fault : Fault)
-        → command (map string_bytes words.now) ≡ Some asked
-        → source_of (F.contents files.old) asked ≡ Some bytes → IsRefused bytes fault
-        → (F.log files.new ≡ F.log files.old)
-        ⊎ (F.log files.new ≡ with_source (F.log files.old) asked) }
+    ensures logs { Logs (map string_bytes words.now) (F.contents files.old) (F.log files.old)
+        (F.log files.new) result }
     // What was read.
     ensures input { AsksSession (map string_bytes words.now)
         ⊎ ((L.left console.new ≡ L.left console.old)
@@ -219,8 +215,8 @@ fn run<F: Files, L: Link, R: Threads + Sync>(
 /// changes nothing.
 ///
 /// The console is the input and the output, as one link. What is said of contents, and of which
-/// files were loaded, holds where `files` and the console tell it, as those over memory do. Only a
-/// session reads the input.
+/// files were loaded, holds where `files` and the console tell it, as those over memory do. What
+/// each status comes of is in [`every_quiet_run`](crate::every_quiet_run).
 pub fn run_quiet<R: Threads + Sync, F: Files, L: Link, O: Sink>(
     rt: &R,
     alloc: Global,
@@ -229,86 +225,15 @@ pub fn run_quiet<R: Threads + Sync, F: Files, L: Link, O: Sink>(
     console: &mut L,
     err: &mut O,
 ) -> u8
-    // How it ended, with what stands behind that end, and its line on the error stream, or a prefix
-    // of the line where that fails.
+    // How it ended, with what stands behind that end, the files that were loaded, and its line on
+    // the error stream, or a prefix of the line where that fails.
     ensures ended { (end : End) × (result ≡ status_of end)
         × Runs (map string_bytes words.now)
         (edge_told F.Files L.Source L.Sink files.old files.new console.old console.new) end
+        × Logs (map string_bytes words.now) (F.contents files.old) (F.log files.old)
+        (F.log files.new) end
         × IsTold (line_of end) (O.written err.old) (O.written err.new) (O.faults err.old)
         (O.faults err.new) }
-    ensures statuses { (result ≡ 0) ⊎ (result ≡ 2) ⊎ (result ≡ 3) ⊎ (result ≡ 4) ⊎ (result ≡ 5)
-        ⊎ (result ≡ 6) ⊎ (result ≡ 7) ⊎ (result ≡ 9) ⊎ (result ≡ 10) ⊎ (result ≡ 11) }
-    // 0: the output grew by a text that the command makes of what its cluster's text means; or the
-    // session was served to its end and drained.
-    ensures done { result ≡ 0 → Ran (map string_bytes words.now)
-        (edge_told F.Files L.Source L.Sink files.old files.new console.old console.new) End.Done }
-    // 11: it grew by the first fault of a trace that isn't good for what the file means.
-    ensures trace { result ≡ 11
-        → Ran (map string_bytes words.now)
-        (edge_told F.Files L.Source L.Sink files.old files.new console.old console.new)
-        End.TraceRefused }
-    // 6 and 10: a session was served up to a read that failed, or up to where its input is cut.
-    ensures read { result ≡ 6
-        → Ran (map string_bytes words.now)
-        (edge_told F.Files L.Source L.Sink files.old files.new console.old console.new)
-        End.ReadFault }
-    ensures input { result ≡ 6
-        → HasRisen (L.Source.faults console.old) (L.Source.faults console.new) }
-    ensures cut { result ≡ 10
-        → Ran (map string_bytes words.now)
-        (edge_told F.Files L.Source L.Sink files.old files.new console.old console.new)
-        End.InputCut }
-    // 7: only where the output's count rose. A prefix of such a text is out, or of a session's
-    // replies.
-    ensures prefix { result ≡ 7
-        → Ran (map string_bytes words.now)
-        (edge_told F.Files L.Source L.Sink files.old files.new console.old console.new)
-        End.WriteFault }
-    ensures output { result ≡ 7 → HasRisen (L.Sink.faults console.old) (L.Sink.faults console.new) }
-    // 2: only where the words are no command, and there unless memory runs out.
-    ensures usage { result ≡ 2 → command (map string_bytes words.now) ≡ None }
-    ensures refuses_words { command (map string_bytes words.now) ≡ None
-        → (result ≡ 2) ⊎ (result ≡ 9) }
-    // 3: only where the file, or the text that is made, has a fault, whose line is told, and there
-    // unless the files or memory fail.
-    ensures refused { result ≡ 3
-        → (line : List ℕ) × IsRefusal (map string_bytes words.now) (F.contents files.old) line
-        × IsTold line (O.written err.old) (O.written err.new) (O.faults err.old)
-        (O.faults err.new) }
-    ensures refuses { (asked : Asked) (bytes : List ℕ) (fault : Fault)
-        → command (map string_bytes words.now) ≡ Some asked
-        → source_of (F.contents files.old) asked ≡ Some bytes
-        → IsRefused bytes fault → (result ≡ 3) ⊎ (result ≡ 5) ⊎ (result ≡ 9) }
-    // 5: only where the files' count rose, of a command that reads its cluster from a file.
-    ensures files { result ≡ 5 → AsksFile (map string_bytes words.now)
-        × HasRisen (F.faults files.old) (F.faults files.new) }
-    // Nothing is written on 2, 3 and 5; on 9 only by a session.
-    ensures silent { (result ≡ 2) ⊎ (result ≡ 3) ⊎ (result ≡ 5)
-        → L.written console.new ≡ L.written console.old }
-    ensures memory { result ≡ 9 → (L.written console.new ≡ L.written console.old)
-        ⊎ AsksSession (map string_bytes words.now) }
-    // FILE is loaded before TRACE, and nothing else is. 0, 4, 6, 7, 10 and 11: all files of the
-    // command, in their order.
-    ensures loaded { (result ≡ 0) ⊎ (result ≡ 4) ⊎ (result ≡ 6) ⊎ (result ≡ 7) ⊎ (result ≡ 10)
-        ⊎ (result ≡ 11)
-        → LoadsAll (map string_bytes words.now) (F.log files.old) (F.log files.new) }
-    // 2: none. 3: the cluster file alone, and no more than that wherever it has a fault.
-    ensures unloaded { result ≡ 2 → F.log files.new ≡ F.log files.old }
-    ensures loaded_alone { result ≡ 3 → LoadsFile (map string_bytes words.now)
-        (F.log files.old) (F.log files.new) }
-    ensures alone { (asked : Asked) (bytes : List ℕ) (fault : Fault)
-        → command (map string_bytes words.now) ≡ Some asked
-        → source_of (F.contents files.old) asked ≡ Some bytes → IsRefused bytes fault
-        → (F.log files.new ≡ F.log files.old)
-        ⊎ (F.log files.new ≡ with_source (F.log files.old) asked) }
-    // 0, 4 of a plan, 11 of a trace, or 9: wherever all that was given is as it should be, and no
-    // call outside failed.
-    ensures complete { (asked : Asked)
-        → IsWellGiven (map string_bytes words.now)
-        (edge_told F.Files L.Source L.Sink files.old files.new console.old console.new) asked
-        → IsWell asked result ⊎ (result ≡ 9)
-        ⊎ HasFailed
-        (edge_told F.Files L.Source L.Sink files.old files.new console.old console.new) }
     // Only a session reads the input.
     ensures left_alone { AsksSession (map string_bytes words.now)
         ⊎ ((L.left console.new ≡ L.left console.old)

@@ -24,7 +24,7 @@ fn main(rt: HostRuntime) -> ExitCode {
     let console = Joined::new(input, output);
     let mut err = HostSink::new(HostStream::Err(rt.stderr()));
     let listener = HostListener::new(rt);
-    run_words(
+    let (code, _left) = run_words(
         &rt,
         rt.alloc(),
         words,
@@ -32,5 +32,6 @@ fn main(rt: HostRuntime) -> ExitCode {
         console,
         listener,
         &mut err,
-    )
+    );
+    code
 }

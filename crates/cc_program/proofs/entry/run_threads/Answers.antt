@@ -1,19 +1,18 @@
-use Rattle.std.proofs.Common.{◌≡◌, ◌∙◌, None, refl, inl, inr, length, map, arith}
+use Rattle.std.proofs.Common.{◌≡◌, ◌∙◌, refl, inl, inr, length, map, arith}
 use Rattle.std.proofs.lemmas.List.{length-map}
 use Rattle.quiet_commands.specs.declared.ends.End.TheVariants as end
 use Rattle.cc_program.proofs.entry.run_threads.Goals as goal
 
 pub returns-in_default : goal.returns-in_default
-returns-in_default g c = (end.Memory, None, c.exit_code.ensures ∙ c.conclude.ensures.status, c.conclude.ensures.told, inl (refl, refl, refl))
+returns-in_default g c = rw c.lent.ensures (end.Memory, c.exit_code-code.ensures ∙ c.conclude.ensures.status, c.conclude.ensures.told, inl (refl, refl, refl))
 
 pub returns : goal.returns
 returns g c =
-    let run = c.run_live-ended in
+    let run = c.run_live-status in
     let ended = run.ensures.ended in
     let long : length c.in-Ok.copiers.items ≡ 129 = omega (arith, c.in-Ok.ensures) in (
       ended.0,
-      run.result.left.drain,
-      c.exit_code-2.ensures ∙ ended.1,
+      c.exit_code.ensures ∙ ended.1,
       ended.3,
       inr (record {
         given = _;
@@ -21,8 +20,6 @@ returns g c =
         net_is = refl;
         enough = length-map _ _ ∙ long;
         cluster = c.new-admin.result;
-        left = run.result.left;
         leaves = ended.2;
-        drain_is = refl;
       }),
     )

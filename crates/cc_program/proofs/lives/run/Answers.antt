@@ -1,9 +1,7 @@
-use Rattle.std.proofs.Common.{rules, ◌≡◌, ◌<◌, ℕ, length, map, string_bytes, arith, inr}
-use Rattle.std.proofs.lemmas.List.{length-map}
+use Rattle.std.proofs.Common.{rules, map, string_bytes, refl, arith, length, inl, inr}
 use Rattle.cluster_json.specs.Views.{file_seen}
-use Rattle.mover_rounds.specs.Made.{copier_of}
-use Rattle.cc_program.specs.Lives.{copiers_before, crew_told}
-use Rattle.cc_program.proofs.Causes.{is_asked}
+use Rattle.cc_program.specs.Lives.{IsCalled, shelf}
+use Rattle.cc_program.proofs.Causes.{forgone}
 use Rattle.cc_program.proofs.Crowds.{few_workers}
 use Rattle.cc_program.proofs.Inserted.{links_counted}
 use Rattle.cc_program.proofs.lives.run.Goals as goal
@@ -16,26 +14,30 @@ begin-requires-clause-few g c κs within =
 
 pub begin-requires-clause-enough : goal.begin-requires-clause-enough
 begin-requires-clause-enough g c κs within =
-    let long : length c.args.outside.copiers ≡ length c.outside.inside.copiers.items = rw (← c.outside.view_is) (length-map c.outside.inside.copiers.items (copier_of g.K.Copier.copies g.K.Copier.faults)) in
-    omega (arith, c.in-Ok.ensures.ok.1, long)
+    let same = links_counted c.in-Ok.request.crew.serving in
+    omega (arith, c.in-Ok.ensures.ok.1, c.count.ensures, same)
 
 pub returns-in-Ok-load-clause-leaves : goal.returns-in-Ok-load-clause-leaves
-returns-in-Ok-load-clause-leaves g c = inr (record { asked = _; means = c.in-Ok.ensures.ok.0; loaded = search rules; file = file_seen c.in-Ok-load.file; meant = search rules; answered = c.begin.ensures.left })
+returns-in-Ok-load-clause-leaves g c =
+    let call : IsCalled (map string_bytes c.args.words.now) (length c.args.outside.copiers) = record { asked = _; means = c.in-Ok.ensures.ok.0; enough = omega (arith, c.in-Ok.ensures.ok.1, c.count.ensures) } in
+    inr (record { call = call; loaded = search rules; file = file_seen c.in-Ok-load.file; meant = search rules; answered = c.begin.ensures.left })
 
-pub returns-in-Ok-load-clause-unasked : goal.returns-in-Ok-load-clause-unasked
-returns-in-Ok-load-clause-unasked g c = λ unasked.
-    let long : length c.args.outside.copiers ≡ length c.outside.inside.copiers.items = rw (← c.outside.view_is) (length-map c.outside.inside.copiers.items (copier_of g.K.Copier.copies g.K.Copier.faults)) in
-    let enough : copiers_before (crew_told c.in-Ok.request.crew) < length c.args.outside.copiers = omega (arith, c.in-Ok.ensures.ok.1, long) in
-    absurd (is_asked _ _ _ c.in-Ok.ensures.ok.0 enough unasked)
+pub returns-in-Err-Refused-clause-leaves : goal.returns-in-Err-Refused-clause-leaves
+returns-in-Err-Refused-clause-leaves g c =
+    let call : IsCalled (map string_bytes c.args.words.now) (length c.args.outside.copiers) = record { asked = _; means = c.in-Ok.ensures.ok.0; enough = omega (arith, c.in-Ok.ensures.ok.1, c.count.ensures) } in
+    let loads = rw c.in-Err-Refused.field-0-is at c.in-Err-Refused.ensures.loads in
+    let logs = rw c.in-Err-Refused.field-0-is at c.in-Err-Refused.ensures.logs in
+    rw c.idle-in-Err-Refused.ensures (inl (record { call = call; loaded = logs; fault = loads.0; refused = loads.1; line_is = loads.2 }, refl, refl, record { outside = refl; links = refl; movers = refl; planners = refl; drain = refl }))
 
-pub returns-in-Err-Refused-clause-unasked : goal.returns-in-Err-Refused-clause-unasked
-returns-in-Err-Refused-clause-unasked g c = λ unasked.
-    let long : length c.args.outside.copiers ≡ length c.outside.inside.copiers.items = rw (← c.outside.view_is) (length-map c.outside.inside.copiers.items (copier_of g.K.Copier.copies g.K.Copier.faults)) in
-    let enough : copiers_before (crew_told c.in-Ok.request.crew) < length c.args.outside.copiers = omega (arith, c.in-Ok.ensures.ok.1, long) in
-    absurd (is_asked _ _ _ c.in-Ok.ensures.ok.0 enough unasked)
+pub returns-in-Err-Failed-clause-leaves : goal.returns-in-Err-Failed-clause-leaves
+returns-in-Err-Failed-clause-leaves g c =
+    let call : IsCalled (map string_bytes c.args.words.now) (length c.args.outside.copiers) = record { asked = _; means = c.in-Ok.ensures.ok.0; enough = omega (arith, c.in-Ok.ensures.ok.1, c.count.ensures) } in
+    let loads = rw c.in-Err-Failed.field-0-is at c.in-Err-Failed.ensures.loads in
+    let logs = rw c.in-Err-Failed.field-0-is at c.in-Err-Failed.ensures.logs in
+    rw c.idle-in-Err-Failed.ensures (inl (((call, logs), loads.1), refl, refl, record { outside = refl; links = refl; movers = refl; planners = refl; drain = refl }))
 
-pub returns-in-Err-Failed-clause-unasked : goal.returns-in-Err-Failed-clause-unasked
-returns-in-Err-Failed-clause-unasked g c = λ unasked.
-    let long : length c.args.outside.copiers ≡ length c.outside.inside.copiers.items = rw (← c.outside.view_is) (length-map c.outside.inside.copiers.items (copier_of g.K.Copier.copies g.K.Copier.faults)) in
-    let enough : copiers_before (crew_told c.in-Ok.request.crew) < length c.args.outside.copiers = omega (arith, c.in-Ok.ensures.ok.1, long) in
-    absurd (is_asked _ _ _ c.in-Ok.ensures.ok.0 enough unasked)
+pub returns-clause-leaves : goal.returns-clause-leaves
+returns-clause-leaves g c =
+    let call : IsCalled (map string_bytes c.args.words.now) (length c.args.outside.copiers) = record { asked = _; means = c.in-Ok.ensures.ok.0; enough = omega (arith, c.in-Ok.ensures.ok.1, c.count.ensures) } in
+    let logs = rw c.in-Err-Memory-load.field-0-is at c.in-Err-Memory-load.ensures.logs in
+    rw c.idle-in-Err-Memory-load.ensures (inl (forgone (map string_bytes c.args.words.now) (length c.args.outside.copiers) (shelf g.F.Files.contents g.F.Files.faults g.F.Files.log c.args.files.now c.load.new.files) call logs, refl, refl, record { outside = refl; links = refl; movers = refl; planners = refl; drain = refl }))
