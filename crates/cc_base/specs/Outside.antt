@@ -9,10 +9,11 @@ Beside = ℕ × Option (List ℕ)
 abbrev pub HasRisen : ℕ → ℕ → Type 0
 HasRisen before now = min (before + 1) (2 ^ 64 - 1) ≤ now
 
--- a count never falls, and an error comes only where it has risen
+-- a count never falls, an error comes only where it has risen, and a call that goes through leaves it
 pub record HasCause {T E : Type 0} (before now : ℕ) (result : Result T E) : Type 0 where
   pub later : before ≤ now
   pub failed : OnErr result (HasRisen before now)
+  pub kept : OnOk result (now ≡ before)
 
 -- what is told, with this piece at its end
 abbrev pub appended : Option (List ℕ) → List ℕ → Option (List ℕ)

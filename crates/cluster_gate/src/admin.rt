@@ -87,7 +87,6 @@ pub trait Admin {
         requires installed { part < parts self.old }
         requires few { length union.now ≤ 16 }
         ensures cause { HasCause (faults self.old) (faults self.new) result }
-        ensures counted { OnOk result (faults self.new ≡ faults self.old) }
         ensures parts { parts self.new ≡ parts self.old }
         ensures lists { OnOk result (told self.new ≡ with_list (told self.old) part union.now) }
         ensures called { OnOk result (calls self.new
@@ -105,7 +104,6 @@ pub trait Admin {
         requires installed { part < parts self.old }
         requires few { length after.now ≤ 16 }
         ensures cause { HasCause (faults self.old) (faults self.new) result }
-        ensures counted { OnOk result (faults self.new ≡ faults self.old) }
         ensures parts { parts self.new ≡ parts self.old }
         ensures lists { OnOk result (told self.new ≡ with_list (told self.old) part after.now) }
         ensures called { OnOk result (calls self.new
@@ -123,7 +121,6 @@ pub trait Admin {
         requires installed { part < parts self.old }
         requires few { length before.now ≤ 16 }
         ensures cause { HasCause (faults self.old) (faults self.new) result }
-        ensures counted { OnOk result (faults self.new ≡ faults self.old) }
         ensures parts { parts self.new ≡ parts self.old }
         ensures lists { OnOk result (told self.new ≡ with_list (told self.old) part before.now) }
         ensures called { OnOk result (calls self.new

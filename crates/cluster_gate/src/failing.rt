@@ -91,8 +91,6 @@ impl<A: Admin> Admin for FailingAdmin<A> {
         // It fails in no other way than the cluster does, and each fault is counted.
         ensures cause { HasCause (⟦<Self as Admin>⟧.faults self.old)
             (⟦<Self as Admin>⟧.faults self.new) result }
-        ensures counted { OnOk result
-            (⟦<Self as Admin>⟧.faults self.new ≡ ⟦<Self as Admin>⟧.faults self.old) }
         // One list is the one that was given, or all stay as they were.
         ensures parts { A.parts self.new.inner ≡ A.parts self.old.inner }
         ensures lists { OnOk result
@@ -120,8 +118,6 @@ impl<A: Admin> Admin for FailingAdmin<A> {
         // It fails in no other way than the cluster does, and each fault is counted.
         ensures cause { HasCause (⟦<Self as Admin>⟧.faults self.old)
             (⟦<Self as Admin>⟧.faults self.new) result }
-        ensures counted { OnOk result
-            (⟦<Self as Admin>⟧.faults self.new ≡ ⟦<Self as Admin>⟧.faults self.old) }
         // One list is the one that was given, or all stay as they were.
         ensures parts { A.parts self.new.inner ≡ A.parts self.old.inner }
         ensures lists { OnOk result
@@ -149,8 +145,6 @@ impl<A: Admin> Admin for FailingAdmin<A> {
         // It fails in no other way than the cluster does, and each fault is counted.
         ensures cause { HasCause (⟦<Self as Admin>⟧.faults self.old)
             (⟦<Self as Admin>⟧.faults self.new) result }
-        ensures counted { OnOk result
-            (⟦<Self as Admin>⟧.faults self.new ≡ ⟦<Self as Admin>⟧.faults self.old) }
         // One list is the one that was given, or all stay as they were.
         ensures parts { A.parts self.new.inner ≡ A.parts self.old.inner }
         ensures lists { OnOk result

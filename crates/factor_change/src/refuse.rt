@@ -1,7 +1,8 @@
 // Why a change is refused.
-ghost use Rattle.std.specs.Prelude.{◌≡◌, ◌<◌, ◌≤◌, bytes_eq, find, length, option_map};
-ghost use Rattle.std.specs.List.{list_any};
+ghost use Rattle.std.specs.Prelude.{◌≡◌, ◌<◌, ◌≤◌, bytes_eq, find, length, nat_lt, option_map};
+ghost use Rattle.std.specs.List.{count_by, list_any};
 ghost use Rattle.plan_terms.specs.Belongs.{Belongs};
+ghost use Rattle.factor_change.specs.Choice.{may_join};
 ghost use Rattle.factor_change.specs.Refused.{falls_short, first_short, is_absent, reach};
 ghost use Rattle.factor_change.specs.Resized.{is_named, is_named_at};
 
@@ -71,6 +72,19 @@ fn reach(case: &Case, list: &[u32]) -> usize
             .count()
 }
 
+// Whether fewer brokers than that may become members. It looks at no more of them than it needs.
+fn has_fewer(case: &Case, list: &[u32], count: usize) -> bool
+    ensures { result ≡ nat_lt (count_by (may_join list.now) case.now.brokers) count }
+{
+    let found = case
+        .brokers()
+        .iter()
+        .filter(|other| may_join(list, other))
+        .take(count)
+        .count();
+    found < count
+}
+
 fn falls_short(case: &Case, topics: &[Topic], factor: usize, lists: &Assign, part: usize) -> bool
     requires belongs { Belongs case.now lists.now }
     requires part { part < length case.now.parts }
@@ -78,7 +92,9 @@ fn falls_short(case: &Case, topics: &[Topic], factor: usize, lists: &Assign, par
 {
     let _lists = lists.lists();
     let list = lists.list(part);
-    is_named_at(case, topics, part) && list.len() < factor && reach(case, list) < factor
+    is_named_at(case, topics, part)
+        && list.len() < factor
+        && has_fewer(case, list, factor - list.len())
 }
 
 /// How many members the first list that can't grow so far may have.

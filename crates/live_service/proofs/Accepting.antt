@@ -43,12 +43,11 @@ module _ (file : Meaning) (v kept own u back w : Pass) (cut : IsCut v kept own) 
 
 -- no link was accepted
 pub none_accepted : {A : Type 0} (b : CallerView A) (s t : ServiceView) (links : ℕ) (r : Result (Unit {0}) Failed) → t.net.accepted ≡ s.net.accepted → t.copiers ≡ s.copiers → t.served ≡ [] → s.room ≤ t.room → s.places ≤ t.places
-    → HasCause s.net.faults t.net.faults r → OnOk r (t.net.faults ≡ s.net.faults) → OnOk r (0 ≡ links) → HasAccepted b b s t links r
-none_accepted b s t links r told copiers none room places cause same whole = record {
+    → HasCause s.net.faults t.net.faults r → OnOk r (0 ≡ links) → HasAccepted b b s t links r
+none_accepted b s t links r told copiers none room places cause whole = record {
   gone = gone_same b;
   served = record { runs = []; others = s.copiers; are = tt; accepted = told; old_are = refl; new_are = copiers; links_are = none; shares = shares_none b.pass };
   cause = cause;
-  counted = same;
   whole = rw none whole;
   most = rw none (omega arith);
   back = record { copiers = ap length copiers; room = room; places = places };
@@ -84,8 +83,7 @@ module _ {A : Type 0} (b kept own u back w : CallerView A) (turn_kept : kept.tur
       record {
         gone = gone_joined b kept own u back w turn_kept cut h.gone since turn_joined joined;
         served = rw net (rw taken (rw given (rw noted more)));
-        cause = rw net (record { later = (let c = h.cause.later in omega (arith, faults, c)); failed = risen_before r s.net.faults s1.net.faults t1.net.faults (omega (arith, faults)) h.cause.failed });
-        counted = rw net (same_before r s.net.faults s1.net.faults t1.net.faults faults h.counted);
+        cause = rw net (record { later = (let c = h.cause.later in omega (arith, faults, c)); failed = risen_before r s.net.faults s1.net.faults t1.net.faults (omega (arith, faults)) h.cause.failed; kept = same_before r s.net.faults s1.net.faults t1.net.faults faults h.cause.kept });
         whole = rw noted (counted r (length t1.served) fewer links one h.whole);
         most = rw noted (let m = h.most in omega (arith, one, m));
         back = record {

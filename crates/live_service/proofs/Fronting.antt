@@ -38,7 +38,7 @@ module _ {A : Type 0} (b u c : CallerView A) (f g : FrontView) (since : IsSince 
   pub links_served : (asked : ServingAsked) → HasAccepted b u f.service g.service asked.links (Ok tt) → g.service.net.heard ≡ with_name f.service.net.heard asked.address → g.copier ≡ f.copier → g.console ≡ f.console → HasServed (Some asked) b c f g front.Accepted
   links_served asked h heard copier console = record {
     gone = gone_on b u c h.gone since;
-    did = record { served = u.pass; placed = placed; answered = (net_served asked.links (Ok tt) h copier console, record { count = h.whole; heard = heard; faults = h.counted }); closed = closed };
+    did = record { served = u.pass; placed = placed; answered = (net_served asked.links (Ok tt) h copier console, record { count = h.whole; heard = heard; faults = h.cause.kept }); closed = closed };
     back = h.back;
   }
 

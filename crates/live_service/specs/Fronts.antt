@@ -121,7 +121,6 @@ pub record HasAccepted {A : Type 0} (b c : CallerView A) (s t : ServiceView) (li
   pub gone : HasGoneOn b c
   pub served : HasServedLinks b.turn.start.file s.net.accepted t.net.accepted s.copiers t.copiers t.served b.pass c.pass
   pub cause : HasCause s.net.faults t.net.faults result
-  pub counted : OnOk result (t.net.faults ≡ s.net.faults)
   pub whole : OnOk result (length t.served ≡ links)
   pub most : length t.served ≤ links
   pub back : IsWhole s t

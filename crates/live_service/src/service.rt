@@ -63,7 +63,6 @@ where
     /// `Failed` where the call fails.
     pub fn listen(&mut self, address: &str) -> Result<(), Failed>
         ensures cause { HasCause self.old.net.faults self.new.net.faults result }
-        ensures counted { OnOk result (self.new.net.faults ≡ self.old.net.faults) }
         ensures heard { OnOk result
             (self.new.net.heard ≡ with_name self.old.net.heard address.now) }
         ensures unheard { OnErr result (self.new.net.heard ≡ self.old.net.heard) }
@@ -80,7 +79,6 @@ where
     /// `Failed` where the call fails. No link is accepted then.
     pub fn accept(&mut self) -> Result<N::Conn, Failed>
         ensures cause { HasCause self.old.net.faults self.new.net.faults result }
-        ensures counted { OnOk result (self.new.net.faults ≡ self.old.net.faults) }
         ensures heard { self.new.net.heard ≡ self.old.net.heard }
         ensures accepted { IfOk result
             (λ link. self.new.net.accepted

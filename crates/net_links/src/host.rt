@@ -49,7 +49,6 @@ impl<S: Read + Write> Source for HostLink<S> {
             × (n ≡ 0 → 0 < length buf.new → IsAtEnd (S.remaining self.new.stream))) }
         // Each fault is counted once.
         ensures cause { HasCause self.old.source_faults self.new.source_faults result }
-        ensures counted { OnOk result (self.new.source_faults ≡ self.old.source_faults) }
         ensures fits { IfOk result (λ n. n ≤ length buf.new) }
         ensures beside { self.new.sink_faults ≡ self.old.sink_faults }
     {
@@ -77,7 +76,6 @@ impl<S: Read + Write> Sink for HostLink<S> {
             (take n bytes.now)) }
         // Each fault is counted once.
         ensures cause { HasCause self.old.sink_faults self.new.sink_faults result }
-        ensures counted { OnOk result (self.new.sink_faults ≡ self.old.sink_faults) }
         ensures fits { IfOk result (λ n. n ≤ length bytes.now) }
         ensures some { IfOk result (λ n. 0 < length bytes.now → 0 < n) }
         ensures beside { self.new.source_faults ≡ self.old.source_faults }
@@ -144,7 +142,6 @@ impl<R: Net> Listener for HostListener<R> {
     fn listen(&mut self, address: &str) -> Result<(), Failed>
         ensures bound { OnOk result (IsSome self.new.listener) }
         ensures cause { HasCause self.old.faults self.new.faults result }
-        ensures counted { OnOk result (self.new.faults ≡ self.old.faults) }
         ensures accepted { ⟦<Self as Listener>⟧.accepted self.new
             ≡ ⟦<Self as Listener>⟧.accepted self.old }
     {
@@ -164,7 +161,6 @@ impl<R: Net> Listener for HostListener<R> {
     fn accept(&mut self) -> Result<HostLink<R::Stream>, Failed>
         ensures unbound { self.old.listener ≡ None → IsErr result }
         ensures cause { HasCause self.old.faults self.new.faults result }
-        ensures counted { OnOk result (self.new.faults ≡ self.old.faults) }
         ensures accepted { IfOk result
             (λ link. ⟦<Self as Listener>⟧.accepted self.new
             ≡ with_link (⟦<Self as Listener>⟧.accepted self.old)

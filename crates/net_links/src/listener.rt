@@ -26,7 +26,6 @@ pub trait Listener {
     /// `Failed` where the call fails.
     fn listen(&mut self, address: &str) -> Result<(), Failed>
         ensures cause { HasCause (faults self.old) (faults self.new) result }
-        ensures counted { OnOk result (faults self.new ≡ faults self.old) }
         ensures heard { OnOk result (heard self.new ≡ with_name (heard self.old) address.now) }
         ensures unheard { OnErr result (heard self.new ≡ heard self.old) }
         ensures accepted { accepted self.new ≡ accepted self.old };
@@ -38,7 +37,6 @@ pub trait Listener {
     /// `Failed` where the call fails. No link is accepted then.
     fn accept(&mut self) -> Result<Self::Conn, Failed>
         ensures cause { HasCause (faults self.old) (faults self.new) result }
-        ensures counted { OnOk result (faults self.new ≡ faults self.old) }
         ensures heard { heard self.new ≡ heard self.old }
         ensures accepted { IfOk result
             (λ link. accepted self.new

@@ -6,3 +6,4 @@ pub mod Lengths
 pub mod Reasons
 pub mod Unique
 pub mod Windows
+pub mod Held

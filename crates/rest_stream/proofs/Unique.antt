@@ -14,7 +14,7 @@ use Rattle.rest_stream.specs.declared.raw.RawRequest.{RawRequest}
 use Rattle.rest_stream.specs.declared.raw.Stop.{Stop}
 use Rattle.rest_stream.specs.declared.raw.Stop.TheVariants as stop
 
-ok_same : (m n : ℕ) (r : Result ℕ Stop) → r ≡ Ok m → r ≡ Ok n → m ≡ n
+pub ok_same : (m n : ℕ) (r : Result ℕ Stop) → r ≡ Ok m → r ≡ Ok n → m ≡ n
 ok_same m n r h k = cc
 
 front_same : (xs ys us vs : List ℕ) → length xs ≡ length ys → xs ++ us ≡ ys ++ vs → (xs ≡ ys) × (us ≡ vs)

@@ -122,7 +122,18 @@ pub record IsUnclear (stream : List ℕ) (a b : Stop) : Type 0 where
 abbrev pub AlwaysStopsBy : List ℕ → Stop → Type 0
 AlwaysStopsBy bytes why = (more : List ℕ) → StopsBy (bytes ++ more) why
 
--- what a call says of its source: its faults never become fewer, and a read fault comes only where they became more
+-- the bytes begin with a whole head
+pub record HoldsHead (bytes : List ℕ) : Type 0 where
+  pub head : RequestHead
+  pub behind : List ℕ
+  pub begins : HasHead bytes head behind
+
+-- nothing was read
+abbrev pub ReadsNothing : List ℕ → List ℕ → Option (List ℕ) → Option (List ℕ) → Type 0
+ReadsNothing held held_now left left_now = (held_now ≡ held) × (left_now ≡ left)
+
+-- what a call says of its source: a read fault comes only where its faults became more, and else they are as many as before
 pub record HasReadCause {T : Type 0} (before now : ℕ) (result : Result T Stop) : Type 0 where
   pub later : before ≤ now
   pub fault : result ≡ Err stop.ReadFault → HasRisen before now
+  pub kept : ¬ (result ≡ Err stop.ReadFault) → now ≡ before

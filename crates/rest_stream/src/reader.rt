@@ -1,7 +1,8 @@
 // The reader of a stream of requests.
-ghost use Rattle.std.specs.Prelude.{◌≡◌, ◌≤◌, ◌+◌, ◌^◌, min, [], IfOk, IfSome, IsNone, IsSome, IsTrue, None, Some};
+ghost use Rattle.std.specs.Prelude.{◌≡◌, ◌≤◌, ◌+◌, ◌^◌, min, ℕ, List, [], IfOk, IfSome, IsNone, IsSome, IsTrue, None, Some};
 ghost use Rattle.rest_stream.specs.Answers.{IfRequest, stop_of};
 ghost use Rattle.cc_base.specs.Outside.{HasRisen};
+ghost use Rattle.rest_stream.specs.declared.raw.RawRequest.{RawRequest};
 ghost use Rattle.rest_stream.specs.declared.raw.Stop.TheVariants as stop;
 ghost use Rattle.rest_stream.specs.Reading.{Progress};
 ghost use Rattle.rest_stream.specs.Stream.{IsRequest, StopsBy, is_last, stream_of};
@@ -81,6 +82,11 @@ impl Reader {
         ensures counts { IsNone self.old.ended → IsNone (stop_of result)
             → self.new.given ≡ min (self.old.given + 1) (2 ^ 48) }
 
+        // where the bytes that came have a request whole, nothing is read
+        ensures unread { IsNone self.old.ended → (raw : RawRequest) (rest : List ℕ)
+            → IsRequest (is_last self.old.given) self.old.held raw rest
+            → S.left source.new ≡ S.left source.old }
+
         // one that has ended
         ensures again { IfSome self.old.ended (λ why. stop_of result ≡ Some why) }
         ensures kept { IsSome self.old.ended → self.new ≡ self.old }
@@ -90,6 +96,8 @@ impl Reader {
         ensures later { S.faults source.old ≤ S.faults source.new }
         ensures fault { IsNone self.old.ended → stop_of result ≡ Some stop.ReadFault
             → HasRisen (S.faults source.old) (S.faults source.new) }
+        ensures unfailed { ¬ (stop_of result ≡ Some stop.ReadFault)
+            → S.faults source.new ≡ S.faults source.old }
         ensures beside { S.beside source.new ≡ S.beside source.old }
     {
         if let Some(why) = self.ended {

@@ -5,7 +5,8 @@ ghost use Rattle.httparse.specs.Spans.{IsHeaderWithin, IsRequestAt, IsRequestWit
 ghost use Rattle.rest_stream.specs.Fields.{value_in};
 ghost use Rattle.cc_base.specs.Outside.{after};
 ghost use Rattle.rest_stream.specs.Heads.{IsFound, IsFramed, parts, request_with};
-ghost use Rattle.rest_stream.specs.Stream.{AlwaysStopsBy, HasReadCause, IsOutside, IsRequest, StopsBy, stream_of};
+ghost use Rattle.rest_stream.specs.Stream.{AlwaysStopsBy, HasReadCause, HoldsHead, IsOutside, IsRequest, ReadsNothing, StopsBy, stream_of};
+ghost use Rattle.rest_stream.specs.declared.raw.RawRequest.{RawRequest};
 ghost use Rattle.rest_stream.specs.declared.raw.Stop.TheVariants as stop;
 ghost use Rattle.std.specs.List.{All};
 
@@ -86,6 +87,12 @@ fn framed_head<S: Source>(
         (λ stream. IsFramed stream f)) }
     ensures len { IfOk result (λ f. f.len ≤ 16384) }
     ensures size { IfOk result (λ f. f.size ≤ 1048576) }
+    // So are the bytes that are held now. Where these hold it already, nothing is read.
+    ensures held { IfOk result
+        (λ f. (more : List ℕ) → IsFramed (inbox.new.held.items ++ more) f) }
+    ensures unread { HoldsHead inbox.old.held.items
+        → ReadsNothing inbox.old.held.items inbox.new.held.items (S.left source.old)
+        (S.left source.new) }
     // Nothing is used up.
     ensures stream { OnOk result
         (stream_of inbox.new.held.items (S.left source.new)
@@ -143,6 +150,9 @@ fn take_body<S: Source>(
     ensures body { IfOk result
         (λ body. IfSome (stream_of inbox.old.held.items (S.left source.old))
         (λ stream. body ≡ take size (drop len stream))) }
+    // Where both are held, nothing is read.
+    ensures unread { len + size ≤ length inbox.old.held.items
+        → S.left source.new ≡ S.left source.old }
     // Both are used up.
     ensures stream { OnOk result
         (stream_of inbox.new.held.items (S.left source.new)
@@ -191,6 +201,9 @@ pub fn take_request<S: Source>(
     ensures told { OnOk result
         (IsSome (stream_of inbox.old.held.items (S.left source.old))
         → IsSome (stream_of inbox.new.held.items (S.left source.new))) }
+    // Where the bytes that are held have it whole, nothing is read.
+    ensures unread { (raw : RawRequest) (rest : List ℕ)
+        → IsRequest is_last inbox.old.held.items raw rest → S.left source.new ≡ S.left source.old }
     // Why there is none.
     ensures why { IfErr result
         (λ e. IfSome (stream_of inbox.old.held.items (S.left source.old))

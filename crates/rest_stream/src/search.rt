@@ -1,7 +1,7 @@
 // The search for a head, and for the body behind it.
 ghost use Rattle.std.specs.Prelude.{◌≡◌, ◌≤◌, ◌<◌, ◌⊎◌, length, IfErr, IfOk, IfSome, OnOk, IsTrue, None};
 ghost use Rattle.rest_stream.specs.Heads.{IsFound};
-ghost use Rattle.rest_stream.specs.Stream.{AlwaysStopsBy, HasReadCause, IsOpenHead, IsOutside, StopsBy, stream_of, window};
+ghost use Rattle.rest_stream.specs.Stream.{AlwaysStopsBy, HasReadCause, HoldsHead, IsOpenHead, IsOutside, ReadsNothing, StopsBy, stream_of, window};
 ghost use Rattle.rest_stream.specs.declared.raw.Stop.TheVariants as stop;
 
 use crate::heads::{HeadState, MAX_HEAD, head_state};
@@ -83,7 +83,8 @@ fn may_end(held: &[u8], seen: usize) -> bool {
 // came as had at the last look, or no more bytes may come. A head takes few looks by this, however
 // its bytes come.
 fn is_due(held: &[u8], seen: usize, looked: usize) -> bool
-    ensures { 16384 ≤ length held.now → IsTrue result }
+    ensures full { 16384 ≤ length held.now → IsTrue result }
+    ensures first { looked ≡ 0 → IsTrue result }
 {
     held.len() >= MAX_HEAD || held.len() / 2 >= looked || may_end(held, seen)
 }
@@ -107,6 +108,10 @@ fn look_or_read<S: Source>(
     // Without one, more is held than before.
     ensures short { result ≡ Ok None → length inbox.old.held.items < 16384 }
     ensures longer { result ≡ Ok None → length inbox.old.held.items < length inbox.new.held.items }
+    // Where a whole head is held, nothing is read.
+    ensures unread { IsTrue is_due → HoldsHead inbox.old.held.items
+        → ReadsNothing inbox.old.held.items inbox.new.held.items (S.left source.old)
+        (S.left source.new) }
     // Or the stream stops here, for that reason.
     ensures why { IfErr result
         (λ e. IfSome (stream_of inbox.old.held.items (S.left source.old))
@@ -134,6 +139,10 @@ pub fn find_head<S: Source>(
 ) -> Result<RequestSpans, Stop>
     requires room { 5462 ≤ length headers.old }
     ensures found { IfOk result (IsFound inbox.new.held.items headers.new) }
+    // Where one is held already, nothing is read.
+    ensures unread { HoldsHead inbox.old.held.items
+        → ReadsNothing inbox.old.held.items inbox.new.held.items (S.left source.old)
+        (S.left source.new) }
     ensures stream { OnOk result
         (stream_of inbox.new.held.items (S.left source.new)
         ≡ stream_of inbox.old.held.items (S.left source.old)) }
@@ -160,6 +169,10 @@ pub fn find_head<S: Source>(
 /// Reads until so many bytes are there.
 pub fn read_to<S: Source>(inbox: &mut Inbox, source: &mut S, count: usize) -> Result<(), Stop>
     ensures enough { OnOk result (count ≤ length inbox.new.held.items) }
+    // Where they are there already, nothing is read.
+    ensures unread { count ≤ length inbox.old.held.items
+        → ReadsNothing inbox.old.held.items inbox.new.held.items (S.left source.old)
+        (S.left source.new) }
     ensures stream { OnOk result
         (stream_of inbox.new.held.items (S.left source.new)
         ≡ stream_of inbox.old.held.items (S.left source.old)) }

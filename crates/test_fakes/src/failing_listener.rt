@@ -55,8 +55,6 @@ impl<L: Listener> Listener for FailingListener<L> {
         ensures counts { CountsCall self.old.calls self.new.calls }
         ensures cause { HasCause (⟦<Self as Listener>⟧.faults self.old)
             (⟦<Self as Listener>⟧.faults self.new) result }
-        ensures counted { OnOk result
-            (⟦<Self as Listener>⟧.faults self.new ≡ ⟦<Self as Listener>⟧.faults self.old) }
         // A listed call hears nothing.
         ensures heard { OnOk result
             (L.heard self.new.inner ≡ with_name (L.heard self.old.inner) address.now) }
@@ -77,8 +75,6 @@ impl<L: Listener> Listener for FailingListener<L> {
         ensures counts { CountsCall self.old.calls self.new.calls }
         ensures cause { HasCause (⟦<Self as Listener>⟧.faults self.old)
             (⟦<Self as Listener>⟧.faults self.new) result }
-        ensures counted { OnOk result
-            (⟦<Self as Listener>⟧.faults self.new ≡ ⟦<Self as Listener>⟧.faults self.old) }
         ensures heard { L.heard self.new.inner ≡ L.heard self.old.inner }
         // What was accepted, which is fresh; a failure accepts nothing.
         ensures accepted { IfOk result

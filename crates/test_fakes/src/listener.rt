@@ -66,7 +66,6 @@ impl<C: Link> Listener for MemoryListener<C> {
             (λ link. into_iter_items self.old.waiting ≡ link ∷ into_iter_items self.new.waiting) }
         ensures none { IsErr result ↔ (into_iter_items self.old.waiting ≡ []) }
         ensures cause { HasCause self.old.faults self.new.faults result }
-        ensures counted { OnOk result (self.new.faults ≡ self.old.faults) }
         ensures accepted { IfOk result
             (λ link. ⟦<Self as Listener>⟧.accepted self.new
             ≡ with_link (⟦<Self as Listener>⟧.accepted self.old)

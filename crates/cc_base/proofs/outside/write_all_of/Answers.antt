@@ -10,6 +10,6 @@ loop-done-preserved g c =
     record {
       fits = search rules;
       out = c.in-Ok.ensures.written ∙ ap (λ ys. appended (g.S.Sink.written c.loop-done.sink) (take c.in-Ok.n ys)) (rest_from c.loop-done.done bytes) ∙ ap (λ old. appended old (take c.in-Ok.n (drop c.loop-done.done bytes))) c.loop-done.invariant.out ∙ appended_further told c.loop-done.done c.in-Ok.n bytes;
-      later = search rules;
+      kept = search rules;
       beside = search rules;
     }

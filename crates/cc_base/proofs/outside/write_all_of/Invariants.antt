@@ -6,7 +6,7 @@ abbrev pub invariant-loop-done : goal.invariant-loop-done
 invariant-loop-done g l = record {
   fits : l.done ≤ length l.bytes;
   out : g.S.Sink.written l.sink ≡ appended (g.S.Sink.written l.fn.sink) (take l.done l.bytes);
-  later : g.S.Sink.faults l.fn.sink ≤ g.S.Sink.faults l.sink;
+  kept : g.S.Sink.faults l.sink ≡ g.S.Sink.faults l.fn.sink;
   beside : g.S.Sink.beside l.sink ≡ g.S.Sink.beside l.fn.sink;
 }
 

@@ -10,7 +10,7 @@ use Rattle.live_service.proofs.links.+accept_links+fn-accept_links-join+arg2.Goa
 
 pub returns-then-links-eq0 : goal.returns-then-links-eq0
 returns-then-links-eq0 g t c = record {
-  accepted = none_accepted c.args.caller c.args.service c.args.service c.args.links (Ok tt) refl refl c.requires.space.none (omega arith) (omega arith) (record { later = omega arith; failed = tt }) refl (search rules);
+  accepted = none_accepted c.args.caller c.args.service c.args.service c.args.links (Ok tt) refl refl c.requires.space.none (omega arith) (omega arith) (record { later = omega arith; failed = tt; kept = refl }) (search rules);
   heard = refl;
 }
 
@@ -21,7 +21,7 @@ returns-in_default g t c =
     let rest = c.accept.ensures.rest in
     record {
       accepted = none_accepted c.args.caller s u c.args.links (Err _) c.in_default.ensures.failed (ap (λ (x : ServiceView). x.copiers) rest) (ap (λ (x : ServiceView). x.served) rest ∙ c.requires.space.none)
-          (omega (arith, ap (λ (x : ServiceView). x.room) rest)) (omega (arith, ap (λ (x : ServiceView). x.places) rest)) (search rules) tt tt;
+          (omega (arith, ap (λ (x : ServiceView). x.room) rest)) (omega (arith, ap (λ (x : ServiceView). x.places) rest)) (search rules) tt;
       heard = c.accept.ensures.heard;
     }
 
@@ -56,7 +56,7 @@ returns g t c =
           s s1 t1 whole before after one.2.end k l c.args.links _ _ (search rules)
           c.in-Ok.ensures.fresh
           (ap (λ (x : ServiceView). x.net.accepted) took ∙ c.in-Ok.ensures.accepted)
-          (ap (λ (x : ServiceView). x.net.faults) took ∙ c.in-Ok.ensures.counted)
+          (ap (λ (x : ServiceView). x.net.faults) took ∙ c.in-Ok.ensures.cause.kept)
           (sym (ap (λ (x : ServiceView). x.copiers) accepted) ∙ c.take_copier-copier.ensures.taken)
           (omega (arith, ap (λ (x : ServiceView). x.room) accepted, ap (λ (x : ServiceView). x.room) took))
           (omega (arith, ap (λ (x : ServiceView). x.places) accepted, ap (λ (x : ServiceView). x.places) took))

@@ -7,4 +7,4 @@ pub returns-in-Err-clause-accepted : goal.returns-in-Err-clause-accepted
 returns-in-Err-clause-accepted g c =
     let rest = c.listen.ensures.rest in
     none_accepted c.args.caller c.args.service c.listen.new.self c.args.serving.now.links (Err _) c.listen.ensures.accepted (ap (λ (x : ServiceView). x.copiers) rest) (ap (λ (x : ServiceView). x.served) rest ∙ c.requires.space.none)
-    (omega (arith, ap (λ (x : ServiceView). x.room) rest)) (omega (arith, ap (λ (x : ServiceView). x.places) rest)) (search rules) tt tt
+    (omega (arith, ap (λ (x : ServiceView). x.room) rest)) (omega (arith, ap (λ (x : ServiceView). x.places) rest)) (search rules) tt
