@@ -1,5 +1,5 @@
 -- What brokers carry, as it grows by one place of a list and by one list.
-use Rattle.std.specs.Prelude.{ℕ, ◌+◌, ◌*◌, ◌≤◌, ◌^◌, Bool, ◌==◌, List, slice_index, if◌then◌else◌}
+use Rattle.std.specs.Prelude.{ℕ, ◌+◌, ◌*◌, ◌≤◌, ◌<◌, ◌^◌, Bool, ◌==◌, List, slice_index, if◌then◌else◌}
 use Rattle.std.specs.List.{count_by}
 use Rattle.plan_terms.specs.Cluster.{leads}
 use Rattle.plan_terms.specs.Load.{list_load}
@@ -44,12 +44,17 @@ with_list p list s = record s {
   leaders = s.leaders + (if leads list s.broker then 1 else 0);
 }
 
--- no more than n places can carry
+-- each load of the partition is below 2^32
+pub record IsLight (p : Part) : Type 0 where
+  pub lead : (r : ℕ) → slice_index p.loads.lead r < 2 ^ 32
+  pub follow : (r : ℕ) → slice_index p.loads.follow r < 2 ^ 32
+
+-- no more than n places of such partitions can carry
 pub record IsWithin (n : ℕ) (s : BrokerShown) : Type 0 where
-  pub cpu : s.cpu ≤ n * 2 ^ 64
-  pub nw_in : s.nw_in ≤ n * 2 ^ 64
-  pub nw_out : s.nw_out ≤ n * 2 ^ 64
-  pub disk : s.disk ≤ n * 2 ^ 64
-  pub potential : s.potential_nw_out ≤ n * 2 ^ 64
+  pub cpu : s.cpu ≤ n * 2 ^ 32
+  pub nw_in : s.nw_in ≤ n * 2 ^ 32
+  pub nw_out : s.nw_out ≤ n * 2 ^ 32
+  pub disk : s.disk ≤ n * 2 ^ 32
+  pub potential : s.potential_nw_out ≤ n * 2 ^ 32
   pub replicas : s.replicas ≤ n
   pub leaders : s.leaders ≤ n

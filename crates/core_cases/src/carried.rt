@@ -3,7 +3,7 @@ ghost use Rattle.std.specs.Prelude.{◌≡◌, ◌+◌, ◌*◌, ◌<◌, ◌≤
 ghost use Rattle.std.specs.List.{All};
 ghost use Rattle.core_terms.specs.Shows.{broker_shown};
 ghost use Rattle.core_terms.specs.Submits.{no_part};
-ghost use Rattle.core_cases.specs.Carried.{IsWithin, idle, with_list, with_member, with_place};
+ghost use Rattle.core_cases.specs.Carried.{IsLight, IsWithin, idle, with_list, with_member, with_place};
 
 use core_terms::BrokerShown;
 use load_model::Case;
@@ -52,7 +52,8 @@ fn idle_rows(alloc: Global, brokers: &[Broker]) -> Result<Vec<BrokerShown>, Memo
 
 // Adds one place of a partition's list, its first or another.
 fn add_place(row: &mut BrokerShown, part: &Part, first: bool)
-    requires { IsWithin (2 ^ 60) row.old }
+    requires light { IsLight part.now }
+    requires within { IsWithin (2 ^ 31) row.old }
     ensures more { row.new ≡ with_place part.now first row.old }
     ensures within { (n : ℕ) → IsWithin n row.old → IsWithin (n + 1) row.new }
 {
@@ -61,11 +62,11 @@ fn add_place(row: &mut BrokerShown, part: &Part, first: bool)
     } else {
         part.loads.follow
     };
-    row.cpu += u128::from(loads[resources::CPU]);
-    row.nw_in += u128::from(loads[resources::NW_IN]);
-    row.nw_out += u128::from(loads[resources::NW_OUT]);
-    row.disk += u128::from(loads[resources::DISK]);
-    row.potential_nw_out += u128::from(part.loads.lead[resources::NW_OUT]);
+    row.cpu += loads[resources::CPU];
+    row.nw_in += loads[resources::NW_IN];
+    row.nw_out += loads[resources::NW_OUT];
+    row.disk += loads[resources::DISK];
+    row.potential_nw_out += part.loads.lead[resources::NW_OUT];
     row.replicas += 1;
     row.leaders += u64::from(first);
 }
@@ -84,7 +85,7 @@ impl Carried {
     fn add_member(&mut self, case: &Case, part: usize, first: bool, id: u32)
         requires part { part < length case.now.parts }
         requires ids { map (λ s. s.broker) self.old ≡ map (λ b. b.id) case.now.brokers }
-        requires within { All (IsWithin (2 ^ 60)) self.old }
+        requires within { All (IsWithin (2 ^ 31)) self.old }
         ensures more { self.new
             ≡ map (with_member (get_or case.now.parts part no_part) first id) self.old }
         ensures within { (n : ℕ) → All (IsWithin n) self.old → All (IsWithin (n + 1)) self.new }
@@ -99,7 +100,7 @@ impl Carried {
         requires part { part < length case.now.parts }
         requires few { length list.now ≤ 16 }
         requires ids { map (λ s. s.broker) self.old ≡ map (λ b. b.id) case.now.brokers }
-        requires within { All (IsWithin (2 ^ 59)) self.old }
+        requires within { All (IsWithin (2 ^ 30)) self.old }
         ensures more { self.new
             ≡ map (with_list (get_or case.now.parts part no_part) list.now) self.old }
         ensures within { (n : ℕ) → All (IsWithin n) self.old → All (IsWithin (n + 16)) self.new }

@@ -33,11 +33,11 @@ pub struct StateShown {
 pub struct BrokerShown {
     pub broker: u32,
     pub state: BrokerState,
-    pub cpu: u128,
-    pub nw_in: u128,
-    pub nw_out: u128,
-    pub disk: u128,
-    pub potential_nw_out: u128,
+    pub cpu: u64,
+    pub nw_in: u64,
+    pub nw_out: u64,
+    pub disk: u64,
+    pub potential_nw_out: u64,
     pub replicas: u64,
     pub leaders: u64,
 }

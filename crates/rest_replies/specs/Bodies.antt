@@ -1,5 +1,5 @@
 -- The bodies of replies, as JSON: keys stand in the order of their bytes, and each body has `version` 1.
-use Rattle.std.specs.Prelude.{ℕ, min, Bool, true, List, [], map, codes, decimal}
+use Rattle.std.specs.Prelude.{ℕ, Bool, true, List, [], map, codes, decimal}
 use Rattle.serde_json.specs.Data.{Data, boolean, string, array, object, member, no_members, Members}
 use Rattle.serde_json.specs.View.{items_of}
 use Rattle.plain_json.specs.Numbers.{number_data, numbers_data}
@@ -22,10 +22,6 @@ use Rattle.core_terms.specs.declared.shows.ExecutorState.{ExecutorState}
 use Rattle.core_terms.specs.declared.shows.PartShown.{PartShown}
 use Rattle.core_terms.specs.declared.shows.TaskShown.{TaskShown}
 use Rattle.rest_replies.specs.Texts.{broker_state_text, endpoint_text, executor_state_text, task_status_text}
-
--- a load. No cluster has one of 2^64 or more, which JSON doesn't take as a whole number: it would stand as the greatest below.
-abbrev pub load_data : ℕ → Data
-load_data n = number_data (min n 18446744073709551615)
 
 -- the last member of each body
 abbrev pub version : Members
@@ -122,9 +118,9 @@ state_data s = object (member (codes "ExecutorState") (executor_data s.counts s.
 
 -- a broker and what it carries
 abbrev pub broker_data : BrokerShown → Data
-broker_data b = object (member (codes "broker") (number_data b.broker) (member (codes "cpu") (load_data b.cpu) (member (codes "disk") (load_data b.disk)
-    (member (codes "leaders") (number_data b.leaders) (member (codes "nwIn") (load_data b.nw_in) (member (codes "nwOut") (load_data b.nw_out)
-    (member (codes "potentialNwOut") (load_data b.potential_nw_out) (member (codes "replicas") (number_data b.replicas)
+broker_data b = object (member (codes "broker") (number_data b.broker) (member (codes "cpu") (number_data b.cpu) (member (codes "disk") (number_data b.disk)
+    (member (codes "leaders") (number_data b.leaders) (member (codes "nwIn") (number_data b.nw_in) (member (codes "nwOut") (number_data b.nw_out)
+    (member (codes "potentialNwOut") (number_data b.potential_nw_out) (member (codes "replicas") (number_data b.replicas)
     (member (codes "state") (string (broker_state_text b.state)) no_members)))))))))
 
 -- the loads of the brokers

@@ -1,5 +1,5 @@
 // The bodies of replies that show something, as JSON.
-ghost use Rattle.std.specs.Prelude.{◌≡◌, map, min, IfOk};
+ghost use Rattle.std.specs.Prelude.{◌≡◌, map, IfOk};
 ghost use Rattle.serde_json.specs.View.{view};
 ghost use Rattle.rest_replies.specs.Answers.{shown_data};
 ghost use Rattle.rest_replies.specs.Bodies.{broker_data, cluster_data, executor_data, loads_data, monitor_data, part_data, state_data, task_data, tasks_data};
@@ -49,35 +49,19 @@ fn state_value(alloc: Global, shown: &StateShown) -> Result<Value, Memory>
     Ok(json!(in alloc; {"ExecutorState": executor, "MonitorState": monitor, "version": 1u64})?)
 }
 
-// A load as a whole number of JSON.
-fn load_number(load: u128) -> u64
-    ensures { result ≡ min load 18446744073709551615 }
-{
-    if load < 1 << 64 {
-        load as u64
-    } else {
-        u64::MAX
-    }
-}
-
 // A broker and what it carries.
 fn broker_value(alloc: Global, shown: &BrokerShown) -> Result<Value, Memory>
     ensures { IfOk result (λ v. view v ≡ broker_data shown.now) }
 {
-    let cpu = load_number(shown.cpu);
-    let disk = load_number(shown.disk);
-    let nw_in = load_number(shown.nw_in);
-    let nw_out = load_number(shown.nw_out);
-    let potential_nw_out = load_number(shown.potential_nw_out);
     let state = broker_state_text(shown.state);
     Ok(json!(in alloc; {
         "broker": (shown.broker),
-        "cpu": cpu,
-        "disk": disk,
+        "cpu": (shown.cpu),
+        "disk": (shown.disk),
         "leaders": (shown.leaders),
-        "nwIn": nw_in,
-        "nwOut": nw_out,
-        "potentialNwOut": potential_nw_out,
+        "nwIn": (shown.nw_in),
+        "nwOut": (shown.nw_out),
+        "potentialNwOut": (shown.potential_nw_out),
         "replicas": (shown.replicas),
         "state": state
     })?)

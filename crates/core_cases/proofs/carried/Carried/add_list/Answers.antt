@@ -14,7 +14,7 @@ add_member-requires-clause-ids c =
 
 pub add_member-requires-clause-within : goal.add_member-requires-clause-within
 add_member-requires-clause-within c =
-    within-more (2 ^ 59 + c.loop-place.place) (2 ^ 60) c.loop-place.self (omega (arith, c.loop-place-test.true, c.requires.few)) (c.loop-place.invariant.within (2 ^ 59) c.requires.within)
+    within-more (2 ^ 30 + c.loop-place.place) (2 ^ 31) c.loop-place.self (omega (arith, c.loop-place-test.true, c.requires.few)) (c.loop-place.invariant.within (2 ^ 30) c.requires.within)
 
 pub loop-place-preserved : goal.loop-place-preserved
 loop-place-preserved c =

@@ -2,9 +2,10 @@ use Rattle.std.proofs.Common.{◌≡◌, ◌∙◌, ◌<◌, ℕ, ◌+◌, List,
 use Rattle.std.specs.List.{All}
 use Rattle.std.proofs.lemmas.List.{get_or_default}
 use Rattle.plan_terms.specs.declared.cluster.Part.{Part}
+use Rattle.load_model.proofs.Sums.{LightPart-case}
 use Rattle.core_terms.specs.Submits.{no_part}
 use Rattle.core_terms.specs.declared.shows.BrokerShown.{BrokerShown}
-use Rattle.core_cases.specs.Carried.{IsWithin, with_member, with_place}
+use Rattle.core_cases.specs.Carried.{IsLight, IsWithin, with_member, with_place}
 use Rattle.core_cases.proofs.Carries.{no_member, one_member, within-more, within-set}
 use Rattle.core_cases.proofs.carried.Carried.add_member.Goals as goal
 
@@ -19,6 +20,12 @@ member c =
     one_member c.args.case.now.brokers c.self.inside.rows.items c.args.id (ap (map (λ (s : BrokerShown). s.broker)) c.self.view_is ∙ c.requires.ids) (get_or c.args.case.now.parts c.args.part no_part) c.args.first
     c.in-Some.broker c.index_mut.result.now c.add_place.new.row c.in-Some.ensures.place c.in-Some.ensures.only c.index_mut.ensures.value
     (c.add_place.ensures.more ∙ ap (λ (p : Part). with_place p c.args.first c.index_mut.result.now) part)
+
+pub add_place-requires-clause-light : goal.add_place-requires-clause-light
+add_place-requires-clause-light c =
+    let light = LightPart-case c.args.case.now c.parts.result.now c.args.part c.index-parts-part.result c.parts.ensures.case c.parts.ensures.value c.requires.part in
+    let Light : Part → Type 0 = λ p. IsLight p in
+    subst Light (sym c.index-parts-part.is) (record { lead = light.lead; follow = light.follow })
 
 pub returns-in-Some-clause-more : goal.returns-in-Some-clause-more
 returns-in-Some-clause-more c = (member c).1 ∙ ap (map (with_member (get_or c.args.case.now.parts c.args.part no_part) c.args.first c.args.id)) c.self.view_is
