@@ -12,6 +12,8 @@ use Rattle.live_service.specs.Workers.{Pass}
 use Rattle.live_service.specs.declared.front.FrontEnd.{FrontEnd}
 use Rattle.live_service.specs.declared.front.FrontEnd.TheVariants as front
 use Rattle.mover_rounds.specs.Made.{Copies}
+use Rattle.mover_rounds.specs.Drained.{IsDrainCause}
+use Rattle.mover_rounds.specs.Owned.{known_by_owner}
 use Rattle.mover_rounds.specs.declared.drains.DrainEnd.{DrainEnd}
 use Rattle.mover_rounds.specs.declared.drains.DrainEnd.TheVariants as drain
 use Rattle.rest_session.specs.Answered.{end_of}
@@ -95,13 +97,22 @@ module _ {A : Type 0} (gate : Gate A) (words : List (List ℕ)) (files : Shelf) 
 
   module _ (asked : LiveAsked) (means : live_command words ≡ Some asked) (m : Meaning) where
     -- a book was begun
-    module _ (c : BookView A) (e : FrontEnd) (d : DrainEnd) (h : IsLiveOf gate m asked.crew o l c e d) where
+    module _ (c : BookView A) (e : FrontEnd) (d : DrainEnd) (h : IsLiveOf gate (gate.faults admin) m asked.crew o l c e d) where
+      -- the drain met a fault of the admin, which its book tells
+      undrained : (n : ℕ) → d ≡ drain.AdminFault n → Cause (Some c) end.NotDrained
+      undrained n is =
+          let live = h.live in
+          let first : gate.faults admin ≤ gate.faults live.closed.admin = (let begun = h.begun in let later = live.shared.since.later in omega (arith, begun, later)) in
+          let risen : HasRisen (gate.faults live.closed.admin) (gate.faults c.admin) = subst (λ (x : BookView A). HasRisen (gate.faults x.admin) (gate.faults c.admin)) live.settled_is (live.behind.risen n is) in
+          let cause : IsDrainCause (known_by_owner live.settled) (known_by_owner c) (drain.AdminFault n) = subst (λ (x : DrainEnd). IsDrainCause (known_by_owner live.settled) (known_by_owner c) x) is live.behind.cause in
+          (omega (arith, first, risen), record { unfinished = cause.2; late = h.late n is })
+
       drained : (want : Bool) → Cause (Some c) (drained_end (or_want want d))
       drained true = tt
       drained false = by d refl where
         by : (x : DrainEnd) → d ≡ x → Cause (Some c) (drained_end x)
         by drain.Drained is = tt
-        by (drain.AdminFault n) is = h.late n is
+        by (drain.AdminFault n) is = undrained n is
         by drain.Memory is = tt
 
       -- the drain leaves the console and the listener as the front did
@@ -118,7 +129,7 @@ module _ {A : Type 0} (gate : Gate A) (words : List (List ℕ)) (files : Shelf) 
       abbrev asked_behind : FrontTold
       asked_behind = told_of h.live.between.front
 
-    over : (c : BookView A) (e : FrontEnd) (want : Bool) (d : DrainEnd) → IsLiveOf gate m asked.crew o l c e d → Cause (Some c) (ended_live e want d)
+    over : (c : BookView A) (e : FrontEnd) (want : Bool) (d : DrainEnd) → IsLiveOf gate (gate.faults admin) m asked.crew o l c e d → Cause (Some c) (ended_live e want d)
     over c (front.Console link.Ended) want d h = drained c (front.Console link.Ended) d h want
     over c (front.Console link.Closed) want d h = drained c (front.Console link.Closed) d h want
     over c (front.Console link.Cut) want d h = let r = h.live.shared.run.run in rw h.given_is.console (cut asked means h.b.file (asked_before c (front.Console link.Cut) d h) (asked_behind c (front.Console link.Cut) d h) r.others_old r.others_new r.begun r.did.served asked.crew.serving refl r.did.answered)
@@ -136,7 +147,7 @@ module _ {A : Type 0} (gate : Gate A) (words : List (List ℕ)) (files : Shelf) 
       by None h = absurd h
       by (Some a) h = at way h where
         at : (x : End) → IsNotBegun gate admin (Some a) x → IsCauseBy gate words files o admin (record l { admin = Some a }) None x
-        at end.NotDrained i = i.0
+        at end.NotDrained i = (i.0, tt)
         at end.Memory i = tt
         at end.Done i = absurd i
         at end.Usage i = absurd i
@@ -177,7 +188,7 @@ module _ {A : Type 0} (gate : Gate A) (words : List (List ℕ)) (files : Shelf) 
   whole given end.ReadFault h = inr (inr (inr (inl h)))
   whole given end.WriteFault h = inr (inr (inr (inr (inl h))))
   whole given end.ListenerFault h = inr (inr (inr (inr (inr (inl h)))))
-  whole given end.NotDrained h = inr (inr (inr (inr (inr (inr h)))))
+  whole given end.NotDrained h = inr (inr (inr (inr (inr (inr h.0)))))
   whole given end.InputCut h =
       let same : h.asked ≡ given.call.asked = same_asked words h.asked given.call.asked h.means given.call.means in
       let served : IsServed None o.console.left = subst (λ (s : Option ServingAsked). IsServed s o.console.left) (sym (ap (λ (a : LiveAsked). a.crew.serving) same) ∙ h.of_console) given.served in

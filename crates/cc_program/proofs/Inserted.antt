@@ -28,7 +28,7 @@ put_in f xs ys n x e = ap (map f) e ∙ map_insert f xs n x
 
 -- a book that was begun
 pub left_begun : {A : Type 0} (gate : Gate A) (m : Meaning) (crew : CrewAsked) (o : OutsideView) (admin : A) (l : LeftView A) (book : Option (BookView A)) (end : End)
-    → IsSome book → IfSome book (λ c. IsOver gate m crew o l c end) → IsLeftFrom gate m crew o admin l book end
+    → IsSome book → IfSome book (λ c. IsOver gate (gate.faults admin) m crew o l c end) → IsLeftFrom gate m crew o admin l book end
 left_begun gate m crew o admin l None end is over = absurd (let h : false ≡ true = is in cc)
 left_begun gate m crew o admin l (Some c) end is over = over
 

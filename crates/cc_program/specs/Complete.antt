@@ -1,8 +1,9 @@
 -- When a run with threads ends so, and when it has to end well.
-use Rattle.std.specs.Prelude.{◌≡◌, ◌≤◌, ◌⊎◌, ℕ, List, length, Option, Some, None}
+use Rattle.std.specs.Prelude.{◌≡◌, ◌≤◌, ◌⊎◌, ℕ, true, List, length, Option, Some, None, IfSome}
 use Rattle.cc_base.specs.Outside.{HasRisen}
 use Rattle.cluster_json.specs.File.{Meaning}
-use Rattle.control_core.specs.Books.{BookView}
+use Rattle.control_core.specs.Books.{BookView, state_of}
+use Rattle.exec_terms.specs.Machine.{any_unfinished}
 use Rattle.rest_session.specs.Answered.{end_of}
 use Rattle.rest_session.specs.declared.session.LinkEnd.TheVariants as link
 use Rattle.rest_stream.specs.Stream.{Requests, stopped}
@@ -26,22 +27,21 @@ pub record IsCutSession (words : List (List ℕ)) (left : Option (List ℕ)) : T
   pub cut : (end_of why ≡ link.Cut) ⊎ (end_of why ≡ link.Unframed)
   pub stops : (stream : List ℕ) → left ≡ Some stream → Requests 0 stream raws (stopped why)
 
--- a call of the admin failed behind a book's settling, or it can't be told, since as many failed before as can be counted
-abbrev pub HasFailedLate : {A : Type 0} → BookView A → Type 0
-HasFailedLate c = (1 ≤ c.late) ⊎ (18446744073709551615 ≤ c.failures)
-
--- or while the book was begun
-abbrev pub HasFailedFirst : {A : Type 0} → Gate A → A → Option A → Type 0
-HasFailedFirst gate admin None = ⊥
-HasFailedFirst gate admin (Some back) = HasRisen (gate.faults admin) (gate.faults back)
-
+-- a call of the admin failed, by the admin that comes back, or by that of the book
 abbrev pub HasFailedBy : {A : Type 0} → Gate A → A → Option A → Option (BookView A) → Type 0
-HasFailedBy gate admin back None = HasFailedFirst gate admin back
-HasFailedBy gate admin back (Some c) = HasFailedLate c
+HasFailedBy gate admin back (Some c) = HasRisen (gate.faults admin) (gate.faults c.admin)
+HasFailedBy gate admin (Some back) None = HasRisen (gate.faults admin) (gate.faults back)
+HasFailedBy gate admin None None = ⊥
 
--- one of both, by what a run left
+-- so by what a run left
 abbrev pub AdminFailed : {A : Type 0} → Gate A → A → LeftView A → Type 0
 AdminFailed gate admin l = HasFailedBy gate admin l.admin l.book
+
+-- a task of the book is unfinished; and a call of the admin failed once the book was settled, or this can't be told, since as many
+-- failed before as can be counted
+pub record IsUndrained {A : Type 0} (c : BookView A) : Type 0 where
+  pub unfinished : any_unfinished (state_of c).desk.exec.tasks ≡ true
+  pub late : (1 ≤ c.late) ⊎ (18446744073709551615 ≤ c.failures)
 
 -- why a run ended so that left this book. It ends neither by a goal nor by a trace
 abbrev pub IsCauseBy : {A : Type 0} → Gate A → List (List ℕ) → Shelf → OutsideView → A → LeftView A → Option (BookView A) → End → Type 0
@@ -50,7 +50,7 @@ IsCauseBy gate words files o admin l book (Refused line) = IsLiveRefusal words (
 IsCauseBy gate words files o admin l book FileFault = IsCalled words (length o.copiers) × HasRisen files.before files.now
 IsCauseBy gate words files o admin l book ReadFault = HasRisen o.console.reads l.outside.console.reads
 IsCauseBy gate words files o admin l book WriteFault = HasRisen o.console.writes l.outside.console.writes
-IsCauseBy gate words files o admin l book NotDrained = HasFailedBy gate admin l.admin book
+IsCauseBy gate words files o admin l book NotDrained = HasFailedBy gate admin l.admin book × IfSome book IsUndrained
 IsCauseBy gate words files o admin l book InputCut = IsCutSession words o.console.left
 IsCauseBy gate words files o admin l book ListenerFault = HasRisen o.net.faults l.outside.net.faults
 IsCauseBy gate words files o admin l book (GoalFailed line) = ⊥

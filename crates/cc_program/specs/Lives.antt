@@ -120,11 +120,13 @@ pub record IsLeftOf {A : Type 0} (crew : CrewAsked) (l : LeftView A) (t : TeamVi
   pub movers : l.movers ≡ t.movers
   pub planners : l.planners ≡ t.planners
 
--- a whole run over the cluster that a file means, with the movers, planners and links that were asked for: a legal history, whose state is
+-- a whole run over the cluster that a file means, with the movers, planners and links that were asked for, which so many failed calls of
+-- the admin had come before: a legal history, whose state is
 -- sound and shows each list as the old one, the new one or, in flight, both; and the admin's lists, where they are told, are those of it
-pub record IsLiveOf {A : Type 0} (admin : Gate A) (m : Meaning) (crew : CrewAsked) (o : OutsideView) (l : LeftView A) (c : BookView A) (e : FrontEnd) (d : DrainEnd) : Type 0 where
+pub record IsLiveOf {A : Type 0} (admin : Gate A) (before : ℕ) (m : Meaning) (crew : CrewAsked) (o : OutsideView) (l : LeftView A) (c : BookView A) (e : FrontEnd) (d : DrainEnd) : Type 0 where
   pub b : BookView A
   pub opening : b ≡ opened m b.admin
+  pub begun : admin.faults b.admin ≡ before
   pub given : TeamView
   pub given_is : IsTeamOf crew o given
   pub back : TeamView
@@ -146,16 +148,17 @@ pub record IsIdle {A : Type 0} (o : OutsideView) (l : LeftView A) : Type 0 where
   pub drain : l.drain ≡ None
 
 -- there was no memory to share the book, and nothing was done: it is as it was opened, and the admin's lists are those of the file
-pub record IsUnshared {A : Type 0} (gate : Gate A) (m : Meaning) (o : OutsideView) (l : LeftView A) (c : BookView A) : Type 0 where
+pub record IsUnshared {A : Type 0} (gate : Gate A) (before : ℕ) (m : Meaning) (o : OutsideView) (l : LeftView A) (c : BookView A) : Type 0 where
   pub opening : c ≡ opened m c.admin
+  pub begun : gate.faults c.admin ≡ before
   pub lists : IfSome (gate.told c.admin) (λ lists. lists ≡ lists_now (state_of c).desk.exec)
   pub idle : IsIdle o l
 
 -- what was left where a book was begun: that, out of memory; or a whole run, by which it ended
-abbrev pub IsOver : {A : Type 0} → Gate A → Meaning → CrewAsked → OutsideView → LeftView A → BookView A → End → Type 0
-IsOver gate m crew o l c end =
-    ((end ≡ Memory) × IsUnshared gate m o l c)
-    ⊎ ((e : FrontEnd) × (d : DrainEnd) × (l.drain ≡ Some d) × (end ≡ ended_live e (any_want l) d) × IsLiveOf gate m crew o l c e d)
+abbrev pub IsOver : {A : Type 0} → Gate A → ℕ → Meaning → CrewAsked → OutsideView → LeftView A → BookView A → End → Type 0
+IsOver gate before m crew o l c end =
+    ((end ≡ Memory) × IsUnshared gate before m o l c)
+    ⊎ ((e : FrontEnd) × (d : DrainEnd) × (l.drain ≡ Some d) × (end ≡ ended_live e (any_want l) d) × IsLiveOf gate before m crew o l c e d)
 
 -- why no book was begun, where the file was read: a call of the admin failed, or there was no memory. The admin comes back, with the lists
 -- that it had
@@ -168,7 +171,7 @@ IsNotBegun gate admin (Some back) _ = ⊥
 -- what was left of a file that was read
 abbrev pub IsLeftFrom : {A : Type 0} → Gate A → Meaning → CrewAsked → OutsideView → A → LeftView A → Option (BookView A) → End → Type 0
 IsLeftFrom gate m crew o admin l None end = IsNotBegun gate admin l.admin end × IsIdle o l
-IsLeftFrom gate m crew o admin l (Some c) end = IsOver gate m crew o l c end
+IsLeftFrom gate m crew o admin l (Some c) end = IsOver gate (gate.faults admin) m crew o l c end
 
 abbrev pub IsLeft : {A : Type 0} → Gate A → Meaning → CrewAsked → OutsideView → A → LeftView A → End → Type 0
 IsLeft gate m crew o admin l end = IsLeftFrom gate m crew o admin l l.book end

@@ -296,7 +296,8 @@ where
     ensures begun { IsSome result.1.book }
     ensures over { (outside : OutsideView) → IsTeamOf (crew_told crew) outside team
         → IfSome result.1.book
-        (λ c. IsOver (gate A.faults A.told) book.file (crew_told crew) outside result.1 c result.0) }
+        (λ c. IsOver (gate A.faults A.told) (A.faults book.admin) book.file (crew_told crew)
+        outside result.1 c result.0) }
 {
     let at = copiers_before(&crew);
     let Crew { workers, serving } = crew;

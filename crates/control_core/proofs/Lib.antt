@@ -6,6 +6,7 @@ pub mod Held
 pub mod Ids
 pub mod Kept
 pub mod Known
+pub mod Lasting
 pub mod Opened
 pub mod Stepped
 pub mod Working

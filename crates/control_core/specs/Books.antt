@@ -1,5 +1,5 @@
 -- The book: what contracts see of it, what it keeps, and what a step tells.
-use Rattle.std.specs.Prelude.{◌≡◌, ℕ, ◌+◌, ◌-◌, ◌^◌, ◌<◌, ◌≤◌, Bool, false, min, List, [], length, Option, IfSome, if◌then◌else◌}
+use Rattle.std.specs.Prelude.{◌≡◌, ℕ, ◌+◌, ◌-◌, ◌^◌, ◌<◌, ◌≤◌, Bool, true, false, min, List, [], length, Option, IfSome, if◌then◌else◌}
 use Rattle.plan_terms.specs.Cluster.{Lists}
 use Rattle.cc_base.specs.Outside.{HasRisen}
 use Rattle.cluster_json.specs.File.{Meaning}
@@ -64,3 +64,14 @@ IsStepFault faults old e new (AdminFault n) =
     IsCause (state_of old).desk e (AdminFault n) × HasRisen (faults old.admin) (faults new.admin) × (n ≡ new.failures) × (new.failures ≡ one_more old.failures)
     × (new.late ≡ (if old.settled then one_more old.late else old.late))
 IsStepFault faults old e new Memory = IsCause (state_of old).desk e Memory × (new.failures ≡ old.failures) × (new.late ≡ old.late)
+
+-- the same book after a while: the admin's count never falls, and a fault that the book answered is one that the admin had; it counts
+-- as late once the book is settled, and not before
+pub record IsSince {A : Type 0} (faults : A → ℕ) (b c : BookView A) : Type 0 where
+  pub file : c.file ≡ b.file
+  pub settled : c.settled ≡ b.settled
+  pub later : faults b.admin ≤ faults c.admin
+  pub risen : b.failures < c.failures → HasRisen (faults b.admin) (faults c.admin)
+  pub early : b.settled ≡ false → c.late ≡ b.late
+  pub late_stays : 1 ≤ b.late → 1 ≤ c.late
+  pub late : b.settled ≡ true → b.failures < c.failures → 1 ≤ c.late

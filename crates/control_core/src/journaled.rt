@@ -7,6 +7,8 @@ use core_terms::{Event, Reply, StepFault};
 use turn_book::Journaled;
 
 impl<A: Admin> Journaled for Book<A> {
+    ghost use Rattle.control_core.specs.Books.{IsSince};
+    ghost use Rattle.control_core.specs.Since.{since_itself, since_on};
     ghost use Rattle.core_terms.specs.Faults.{IsWant, blame_of};
     ghost use Rattle.core_terms.specs.History.{is_outward, is_sure_after, reply_after, stirs};
 
@@ -35,6 +37,12 @@ impl<A: Admin> Journaled for Book<A> {
     ghost blamed = { λ b. b.failures };
 
     ghost is_stirring = { stirs };
+
+    ghost since = { λ b c. IsSince A.faults b c };
+
+    ghost stays = { λ b. since_itself A.faults b };
+
+    ghost goes_on = { λ b c d. since_on A.faults b c d };
 
     fn step(&mut self, event: Event) -> Result<Reply, (StepFault, Event)> {
         let _before = self.failures();

@@ -198,8 +198,8 @@ journal_open journal mine all free = all_open journal (λ x e at.
     subst (λ (y : Event). is_close y ≡ false) same (open_at mine found.0 found.1 free found.2))
 
 -- so a front whose Close wasn't taken is none: it asked the only one
-module _ {A : Type 0} (asked : Option ServingAsked) (f g : FrontTold) (end : FrontEnd) (b c : BookView A) (s t : TeamView) (movers planners : ℕ) where
-  front_closes : (h : IsShared (λ xs ys. HasFronted (HasAnswered b.file asked f g end xs ys)) b c s t movers planners) → IsClosed h.run.run.did.served h.run.run.over → HasClosed h.run.run.did.served h.run.run.over
+module _ {A : Type 0} (faults : A → ℕ) (asked : Option ServingAsked) (f g : FrontTold) (end : FrontEnd) (b c : BookView A) (s t : TeamView) (movers planners : ℕ) where
+  front_closes : (h : IsShared faults (λ xs ys. HasFronted (HasAnswered b.file asked f g end xs ys)) b c s t movers planners) → IsClosed h.run.run.did.served h.run.run.over → HasClosed h.run.run.did.served h.run.run.over
   front_closes h (inl closed) = closed
   front_closes h (inr none) =
       let r = h.run.run in
@@ -207,9 +207,9 @@ module _ {A : Type 0} (asked : Option ServingAsked) (f g : FrontTold) (end : Fro
       let served : AreFreeAt is_close r.over.mine = subst (AreFreeAt is_close) (sym none.mine) (answered_open b.file asked f g end r.others_old r.others_new r.begun r.did.served fresh r.did.answered) in
       let moved : AreFreeAt is_close h.run.between.mine = subst (AreFreeAt is_close) (sym r.movers.shares.mine) (both_at is_close r.over.mine _ served (movers_open b.file r.movers.movers r.movers.are)) in
       let all : AreFreeAt is_close h.back.mine = subst (AreFreeAt is_close) (sym h.run.planners.shares.mine) (both_at is_close h.run.between.mine _ moved (planners_open b.file h.run.planners.planners h.run.planners.are)) in
-      absurd (let one = journal_open c.journal h.back.mine h.shares all in let other = is_closed (HasAnswered b.file asked f g end) b c s t movers planners h in (let f : false ≡ true = sym one ∙ other in cc))
+      absurd (let one = journal_open c.journal h.back.mine h.shares all in let other = is_closed faults (HasAnswered b.file asked f g end) b c s t movers planners h in (let f : false ≡ true = sym one ∙ other in cc))
 
-  pub closes_once : IsShared (λ xs ys. HasFronted (HasAnswered b.file asked f g end xs ys)) b c s t movers planners → IsShared (λ xs ys. IsFront (HasAnswered b.file asked f g end xs ys)) b c s t movers planners
+  pub closes_once : IsShared faults (λ xs ys. HasFronted (HasAnswered b.file asked f g end xs ys)) b c s t movers planners → IsShared faults (λ xs ys. IsFront (HasAnswered b.file asked f g end xs ys)) b c s t movers planners
   closes_once h = record {
     given = h.given;
     fresh = h.fresh;
@@ -227,7 +227,7 @@ module _ {A : Type 0} (asked : Option ServingAsked) (f g : FrontTold) (end : Fro
       };
       planners = h.run.planners;
     };
-    file_is = h.file_is;
+    since = h.since;
     shares = h.shares;
     saw = h.saw;
     told = h.told;

@@ -2,12 +2,12 @@
 use Rattle.std.specs.Prelude.{◌≡◌, ◌≤◌, ℕ, true, List, [], length, Option}
 use mathlib.Core.List.{IsPrefix}
 use Rattle.cc_base.specs.Outside.{HasRisen}
-use Rattle.control_core.specs.Books.{BookView}
+use Rattle.control_core.specs.Books.{BookView, IsSince}
 use Rattle.core_terms.specs.declared.events.Event.{Event}
 use Rattle.mover_rounds.specs.Made.{Copies}
 use Rattle.mover_rounds.specs.Drained.{IsDrainCause}
 use Rattle.mover_rounds.specs.Exact.{HasDrainedAlone}
-use Rattle.mover_rounds.specs.Owned.{IsSince, known_by_owner}
+use Rattle.mover_rounds.specs.Owned.{known_by_owner}
 use Rattle.mover_rounds.specs.declared.drains.DrainEnd.{DrainEnd}
 use Rattle.mover_rounds.specs.declared.drains.DrainEnd.TheVariants as drain
 use Rattle.turn_book.specs.Rule.{ArePlaced, once_below, times}
@@ -23,13 +23,13 @@ pub record AreAllOf (journal : List Event) (mine : List (ℕ × Event)) : Type 0
   pub placed : ArePlaced journal mine
 
 -- the journal of a book that was just opened is now that of a front, of movers and of planners that ran beside one another: each place
--- of it is in just one of their shares, and no share was told more faults of the admin than the book answered
-pub record IsShared {A : Type 0} (Did : List Copies → List Copies → Pass → Pass → Type 0) (b c : BookView A) (s t : TeamView) (movers planners : ℕ) : Type 0 where
+-- of it is in just one of their shares; the book lasted meanwhile, and no share was told more faults of the admin than it answered
+pub record IsShared {A : Type 0} (faults : A → ℕ) (Did : List Copies → List Copies → Pass → Pass → Type 0) (b c : BookView A) (s t : TeamView) (movers planners : ℕ) : Type 0 where
   pub given : Pass
   pub fresh : given.mine ≡ []
   pub back : Pass
   pub run : HasRunAll Did b.file given back s.front.service.copiers t.front.service.copiers t.movers t.planners movers planners
-  pub file_is : c.file ≡ b.file
+  pub since : IsSince faults b c
   pub shares : AreAllOf c.journal back.mine
   pub saw : IsPrefix back.seen c.journal
   pub told : back.last ≤ c.failures
@@ -47,7 +47,7 @@ pub record IsLive {A : Type 0} (faults : A → ℕ) (asked : Option ServingAsked
   pub closed : BookView A
   pub between : TeamView
   pub between_is : between ≡ record t { front = record t.front { copier = between.front.copier } }
-  pub shared : IsShared (λ xs ys. IsFront (HasAnswered b.file asked (told_of s.front) (told_of between.front) end xs ys)) b closed s between movers planners
+  pub shared : IsShared faults (λ xs ys. IsFront (HasAnswered b.file asked (told_of s.front) (told_of between.front) end xs ys)) b closed s between movers planners
   pub settled : BookView A
   pub settled_is : settled ≡ record closed { settled = true }
   pub behind : IsBehind faults settled c between.front.copier t.front.copier drain

@@ -45,8 +45,8 @@ fn share<P: Parties, R: Threads + Wait + Sync>(
     requires opened { book.journal ≡ [] }
     requires ready { IsReady team 1048576 movers planners (links_of serving) }
     // What was done, and the copiers come back.
-    ensures shared { IfOk result (λ r. IsShared (Fronted book.file (serving_told serving) team.front
-        r.1.front r.2) book r.0 team r.1 movers planners) }
+    ensures shared { IfOk result (λ r. IsShared P.Gate.faults (Fronted book.file (serving_told serving)
+        team.front r.1.front r.2) book r.0 team r.1 movers planners) }
     ensures back { IfOk result (λ r. IsWhole team.front.service r.1.front.service) }
     // Out of memory, all is handed back.
     ensures handed_back { IfErr result (λ e. (e.book ≡ book) × (e.team ≡ team)) }

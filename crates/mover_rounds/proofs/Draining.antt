@@ -1,13 +1,11 @@
 -- What a round leaves to the owner of a book.
 use Rattle.std.proofs.Common.{◌≡◌, ℕ, Bool, true, List, [], ◌∷◌, ◌++◌, arith, refl, ap, sym, ◌∙◌, Ok}
-use Rattle.std.specs.Prelude.{fold}
-use Rattle.std.proofs.lemmas.List.Sums.{fold-append}
 use Rattle.cluster_json.specs.File.{Meaning}
 use Rattle.exec_terms.specs.declared.replies.Given.{Given}
 use Rattle.core_terms.specs.Ends.{Ends, Works}
 use Rattle.core_terms.specs.Input.{IsInput}
 use Rattle.core_terms.specs.Problem.{ProblemView}
-use Rattle.core_terms.specs.State.{Core, Desk, opening_of}
+use Rattle.core_terms.specs.State.{Core, Desk}
 use Rattle.core_terms.specs.Step.{reply_of, next}
 use Rattle.core_terms.specs.History.{AreLegal, is_refusal, state_after}
 use Rattle.core_terms.specs.Sound.{IsSound}
@@ -25,6 +23,7 @@ use Rattle.mover_rounds.specs.Rounds.{IsIdle, IsJob, IsLookedRound, IsNoJob, IsP
 use Rattle.mover_rounds.specs.Made.{Copies, HasRound}
 use Rattle.mover_rounds.specs.Owned.{known_by_owner}
 use Rattle.mover_rounds.specs.declared.round.Found.TheVariants.{Planned, Worked, Idle}
+use Rattle.mover_rounds.proofs.GivingBack.{after_all}
 use Rattle.mover_rounds.proofs.Owning.{entries_append}
 
 pub cancel : {X : Type 0} (xs ys zs : List X) → xs ++ ys ≡ xs ++ zs → ys ≡ zs
@@ -34,10 +33,6 @@ cancel (x ∷ xs) ys zs e = cancel xs ys zs cc
 -- the entries that were added are those of the events that were
 pub made_is : (j k t : List Event) (made : List Entry) → j ++ t ≡ k → entries_from [] k ≡ entries_from [] j ++ made → made ≡ entries_from j t
 made_is j k t made grew own = cancel (entries_from [] j) made (entries_from j t) (sym own ∙ (ap (λ z. entries_from [] z) (sym grew) ∙ entries_append [] j t))
-
-pub after_all : (file : Meaning) (j t : List Event) → state_after file (j ++ t) ≡ fold (next file) (state_after file j) t
-unfolding state_after
-after_all file j t = fold-append (next file) (opening_of file) j t
 
 no_job_refuses : (r : Reply) → IsNoJob r → (is_refusal r ≡ true) × (is_no_job r ≡ true)
 no_job_refuses (reply.NoJob closing) h = (refl, refl)

@@ -25,7 +25,8 @@ use Rattle.mover_rounds.specs.Exact.{HasDrainedAlone, HasPumpedAlone}
 use Rattle.mover_rounds.specs.Owned.{known_by_owner}
 use Rattle.mover_rounds.specs.declared.drains.DrainEnd.{DrainEnd}
 use Rattle.mover_rounds.specs.declared.drains.DrainEnd.TheVariants as drain
-use Rattle.mover_rounds.proofs.Draining.{after_all, cancel, made_is}
+use Rattle.mover_rounds.proofs.Draining.{cancel, made_is}
+use Rattle.mover_rounds.proofs.GivingBack.{after_all}
 use Rattle.mover_rounds.proofs.Pumping.{copies_append}
 
 -- entries in two parts are those of events in two parts

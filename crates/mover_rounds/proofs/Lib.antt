@@ -5,6 +5,7 @@ pub mod Working
 pub mod Rounding
 pub mod Pumping
 pub mod Later
+pub mod GivingBack
 pub mod Owning
 pub mod Draining
 pub mod Behind

@@ -1,5 +1,5 @@
 -- What a step of an owned book tells of its owner.
-use Rattle.std.proofs.Common.{◌≡◌, ℕ, ◌≤◌, Bool, true, false, List, [], ◌∷◌, ◌++◌, cond, ap, sym, ◌∙◌, append_assoc, append-nil, arith}
+use Rattle.std.proofs.Common.{◌≡◌, ℕ, Bool, true, List, [], ◌∷◌, ◌++◌, ap, sym, ◌∙◌, append_assoc, append-nil, arith}
 use Rattle.std.specs.Prelude.{Option, Some, None, Result, Ok, Err, OnOk, OnErr, IfOk, IfErr}
 use Rattle.std.specs.List.{list_any}
 use Rattle.cluster_json.specs.File.{Meaning}
@@ -16,10 +16,11 @@ use Rattle.core_terms.specs.declared.events.Event.TheVariants as event
 use Rattle.core_terms.specs.declared.faults.StepFault.{StepFault}
 use Rattle.core_terms.specs.declared.faults.StepFault.TheVariants.{AdminFault, Memory}
 use Rattle.core_terms.specs.declared.replies.Reply.{Reply}
-use Rattle.control_core.specs.Books.{BookView, IsStepFault, one_more, state_of}
-use Rattle.mover_rounds.specs.Asked.{Entry, HasAsked, IsUnasked, IsAskFault, core_rules, entries_from}
+use Rattle.control_core.specs.Books.{BookView, IsStepFault, state_of}
+use Rattle.mover_rounds.specs.Asked.{Entry, HasAsked, IsUnasked, IsAskFault, StaysUnfinished, core_rules, entries_from, gives_back}
 use Rattle.mover_rounds.specs.Jobs.{Fits, FitsJob, FitsWork}
-use Rattle.mover_rounds.specs.Owned.{IsSince, known_by_owner}
+use Rattle.mover_rounds.specs.Owned.{known_by_owner}
+use Rattle.mover_rounds.proofs.GivingBack.{stays_unfinished}
 
 -- the entries of a journal that grew
 pub entries_append : (front h t : List Event) → entries_from front (h ++ t) ≡ entries_from front h ++ entries_from (front ++ h) t
@@ -65,37 +66,6 @@ module _ {A : Type 0} (faults : A → ℕ) (b c : BookView A) (e : Event) where
     told = told f file same h;
   }
 
-  -- the book after an entry, and after a fault
-  since_entry : c.file ≡ b.file → c.settled ≡ b.settled → faults b.admin ≤ faults c.admin → (c.failures ≡ b.failures) × (c.late ≡ b.late) → IsSince faults b c
-  since_entry file settled later h = record {
-    file = file;
-    settled = settled;
-    later = later;
-    risen = λ l. absurd (omega (arith, h.0, l));
-    late_stays = λ l. omega (arith, h.1, l);
-    late = λ s l. absurd (omega (arith, h.0, l));
-  }
-
-  late_after : (s : Bool) → c.late ≡ cond s (one_more b.late) b.late → 1 ≤ b.late → 1 ≤ c.late
-  late_after true h l = omega (arith, h)
-  late_after false h l = omega (arith, h, l)
-
-  since_fault : (f : StepFault) → c.file ≡ b.file → c.settled ≡ b.settled → faults b.admin ≤ faults c.admin → IsStepFault faults b e c f → IsSince faults b c
-  since_fault (AdminFault n) file settled later h = record {
-    file = file;
-    settled = settled;
-    later = later;
-    risen = λ l. h.1;
-    late_stays = late_after b.settled h.4;
-    late = λ s l. let k : c.late ≡ one_more b.late = rw s at h.4 in omega (arith, k);
-  }
-  since_fault Memory file settled later h = since_entry file settled later (h.1, h.2)
-
-  pub since_step : (r : Result Reply (StepFault × Event)) → c.file ≡ b.file → c.settled ≡ b.settled → faults b.admin ≤ faults c.admin → OnOk r ((c.failures ≡ b.failures) × (c.late ≡ b.late))
-      → IfErr r (λ x. IsStepFault faults b e c x.0) → IsSince faults b c
-  since_step (Ok y) file settled later k x = since_entry file settled later k
-  since_step (Err y) file settled later k x = since_fault y.0 file settled later x
-
   pub asked_step : (r : Result Reply (StepFault × Event)) → c.file ≡ b.file → OnOk r (c.journal ≡ b.journal ++ e ∷ []) → IfOk r (λ y. y ≡ reply_of b.file (state_of b) e) → OnOk r ((c.failures ≡ b.failures) × (c.late ≡ b.late))
       → IfOk r (HasAsked (known_by_owner b) (known_by_owner c) e)
   asked_step (Ok y) file grew is k = owner_asked y file grew is k.0
@@ -109,3 +79,7 @@ module _ {A : Type 0} (faults : A → ℕ) (b c : BookView A) (e : Event) where
   pub fits_step : (r : Result Reply (StepFault × Event)) → IfOk r (λ y. y ≡ reply_of b.file (state_of b) e) → IfOk r (Fits e)
   fits_step (Ok y) is = rw is (replies_fit b.file (state_of b) e)
   fits_step (Err y) is = tt
+
+  pub stays_step : (r : Result Reply (StepFault × Event)) → c.file ≡ b.file → OnOk r (c.journal ≡ b.journal ++ e ∷ []) → OnErr r (c.journal ≡ b.journal) → gives_back e ≡ true → StaysUnfinished (known_by_owner b) (known_by_owner c)
+  stays_step (Ok y) file grew same gives = λ h. rw (file, grew) (stays_unfinished b.file b.journal e gives h)
+  stays_step (Err y) file grew same gives = λ h. rw (file, same) h

@@ -5,6 +5,7 @@ use Rattle.cc_base.specs.Outside.{HasRisen}
 use Rattle.cluster_json.specs.File.{Meaning}
 use Rattle.core_terms.specs.History.{reply_after, is_sure_after, is_unfinished_after, is_outward}
 use Rattle.core_terms.specs.declared.events.Event.{Event}
+use Rattle.core_terms.specs.declared.events.Event.TheVariants as event
 use Rattle.core_terms.specs.declared.replies.Reply.{Reply}
 use Rattle.core_terms.specs.declared.faults.StepFault.{StepFault}
 use Rattle.core_terms.specs.declared.faults.StepFault.TheVariants.{AdminFault, Memory}
@@ -56,6 +57,16 @@ pub record HasAsked (v w : Known) (event : Event) (reply : Reply) : Type 0 where
   pub own : w.own ≡ v.own ++ record { before = v.seen ++ between; event = event } ∷ []
   pub replied : reply ≡ v.rules.reply (v.seen ++ between) event
   pub blamed : w.blamed ≡ v.blamed
+
+-- the events that give back a lease or a ticket
+abbrev pub gives_back : Event → Bool
+gives_back (event.GiveBack lease) = true
+gives_back (event.PlanBack ticket) = true
+gives_back _ = false
+
+-- where a task was unfinished, one is
+abbrev pub StaysUnfinished : Known → Known → Type 0
+StaysUnfinished v w = v.rules.unfinished v.seen ≡ true → w.rules.unfinished w.seen ≡ true
 
 -- the fault of an event that was not taken: the admin's, which only an event that calls it meets, while a task is unfinished; or want
 -- of memory, which no sure event meets

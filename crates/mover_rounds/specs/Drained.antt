@@ -48,7 +48,7 @@ IsDrained rules seen _ made copies = AreBroken rules seen made copies
 abbrev pub HasDrained : Known → Known → Copies → Copies → DrainEnd → Type 0
 HasDrained v w k l end = HasMade (IsDrained v.rules w.seen end) v w k l
 
--- the admin's fault that ends a drain is the last one, and came in it, while a task was unfinished; with any other end none came
+-- the admin's fault that ends a drain is the last one, and came in it, and a task is unfinished; with any other end none came
 abbrev pub IsDrainCause : Known → Known → DrainEnd → Type 0
 IsDrainCause v w (drain.AdminFault n) = IsCause v w (AdminFault n)
 IsDrainCause v w _ = w.blamed ≡ v.blamed

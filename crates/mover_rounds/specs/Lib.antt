@@ -4,5 +4,4 @@ pub mod Rounds
 pub mod Made
 pub mod Owned
 pub mod Drained
-pub mod Since
 pub mod Exact

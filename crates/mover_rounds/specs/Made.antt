@@ -51,17 +51,10 @@ failures_of (x ∷ xs) = failed_in x.event + failures_of xs
 abbrev pub HasRisenBy : ℕ → ℕ → ℕ → Type 0
 HasRisenBy n before now = min (before + n) (2 ^ 64 - 1) ≤ now
 
--- a task was unfinished after a history between these two
-pub record WasBusy (rules : Rules) (from to : List Event) : Type 0 where
-  pub history : List Event
-  pub longer : IsPrefix from history
-  pub saw : IsPrefix history to
-  pub unfinished : rules.unfinished history ≡ true
-
--- why a call ended: the admin's fault is the last one, and came in the call, while a task was unfinished; with want of memory no fault
--- of the admin came
+-- why a call ended: the admin's fault is the last one, and came in the call, and a task is unfinished; with want of memory no fault of
+-- the admin came
 abbrev pub IsCause : Known → Known → StepFault → Type 0
-IsCause v w (AdminFault n) = (n ≡ w.blamed) × HasRisen v.blamed w.blamed × WasBusy v.rules v.seen w.seen
+IsCause v w (AdminFault n) = (n ≡ w.blamed) × HasRisen v.blamed w.blamed × (w.rules.unfinished w.seen ≡ true)
 IsCause v w Memory = w.blamed ≡ v.blamed
 
 -- one entry more
@@ -227,7 +220,7 @@ IsPumped rules seen steps _ made copies = (n : ℕ) × (n < steps) × AreRounds 
 abbrev pub HasPumped : Known → Known → Copies → Copies → ℕ → PumpEnd → Type 0
 HasPumped v w k l steps end = HasMade (IsPumped v.rules w.seen steps end) v w k l
 
--- the admin's fault that ends a pump is the last one, and came in it, while a task was unfinished; with any other end none came
+-- the admin's fault that ends a pump is the last one, and came in it, and a task is unfinished; with any other end none came
 abbrev pub IsPumpCause : Known → Known → PumpEnd → Type 0
 IsPumpCause v w (pump.AdminFault n) = IsCause v w (AdminFault n)
 IsPumpCause v w _ = w.blamed ≡ v.blamed

@@ -1,6 +1,6 @@
 // What takes events for one actor.
-ghost use Rattle.std.specs.Prelude.{◌≡◌, IfOk, IfErr};
-ghost use Rattle.mover_rounds.specs.Asked.{Known, HasAsked, IsUnasked};
+ghost use Rattle.std.specs.Prelude.{◌≡◌, true, IfOk, IfErr};
+ghost use Rattle.mover_rounds.specs.Asked.{Known, HasAsked, IsUnasked, StaysUnfinished, gives_back};
 ghost use Rattle.mover_rounds.specs.Jobs.{Fits};
 
 use core_terms::{Event, Reply, StepFault};
@@ -31,7 +31,10 @@ pub trait Asker {
         ensures fits { IfOk result (Fits event) }
         ensures unasked { IfErr result
             (λ e. IsUnasked (known self.old) (known self.new) event e.0) }
-        ensures handed_back { IfErr result (λ e. e.1 ≡ event) };
+        ensures handed_back { IfErr result (λ e. e.1 ≡ event) }
+        // A lease or a ticket that comes back ends no task.
+        ensures unfinished { gives_back event ≡ true
+            → StaysUnfinished (known self.old) (known self.new) };
 
     /// It holds where nothing was asked.
     ghost stays: { (x : Self) → since x x };

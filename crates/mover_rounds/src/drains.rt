@@ -5,7 +5,8 @@ ghost use Rattle.core_laws.specs.Alone.{IsDone, IsQuiet};
 ghost use Rattle.mover_rounds.specs.Drained.{HasDrained, HasFound, IsDrainCause, IsFoundBy};
 ghost use Rattle.mover_rounds.specs.Exact.{HasDrainedAlone};
 ghost use Rattle.mover_rounds.specs.Made.{IsCause, copier_of};
-ghost use Rattle.mover_rounds.specs.Owned.{IsSince, known_by_owner};
+ghost use Rattle.control_core.specs.Books.{IsSince};
+ghost use Rattle.mover_rounds.specs.Owned.{known_by_owner};
 
 use crate::round::{Found, one_round};
 use cluster_gate::{Admin, Copier};

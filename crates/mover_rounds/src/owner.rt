@@ -6,8 +6,9 @@ use control_core::Book;
 use core_terms::{Event, Reply, StepFault};
 
 impl<A: Admin> Asker for Book<A> {
-    ghost use Rattle.mover_rounds.specs.Owned.{IsSince, known_by_owner};
-    ghost use Rattle.mover_rounds.specs.Since.{since_itself, since_on};
+    ghost use Rattle.control_core.specs.Books.{IsSince};
+    ghost use Rattle.control_core.specs.Since.{since_itself, since_on};
+    ghost use Rattle.mover_rounds.specs.Owned.{known_by_owner};
 
     ghost known = { λ b. known_by_owner b };
 

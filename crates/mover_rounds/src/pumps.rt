@@ -1,7 +1,8 @@
 // Rounds, one after another.
 ghost use Rattle.mover_rounds.specs.Exact.{HasPumpedAlone};
 ghost use Rattle.mover_rounds.specs.Made.{HasPumped, IsPumpCause, copier_of};
-ghost use Rattle.mover_rounds.specs.Owned.{IsSince, known_by_owner};
+ghost use Rattle.control_core.specs.Books.{IsSince};
+ghost use Rattle.mover_rounds.specs.Owned.{known_by_owner};
 
 use crate::asker::Asker;
 use crate::round::{Found, one_round};

@@ -30,7 +30,8 @@ use Rattle.mover_rounds.specs.Exact.{HasDrainedAlone}
 use Rattle.mover_rounds.specs.Made.{Copies, failures_of}
 use Rattle.mover_rounds.specs.Owned.{known_by_owner}
 use Rattle.mover_rounds.specs.declared.drains.DrainEnd.TheVariants as drain
-use Rattle.mover_rounds.proofs.Draining.{after_all, made_is}
+use Rattle.mover_rounds.proofs.Draining.{made_is}
+use Rattle.mover_rounds.proofs.GivingBack.{after_all}
 use Rattle.request_runs.specs.Runs.{CameOf, IsRun, cluster_asked, without_share}
 use Rattle.request_runs.proofs.Rounds.{drained_calm}
 use Rattle.request_runs.proofs.Whole.{Tells, first_quiet, first_reply, told, under_way}

@@ -25,12 +25,20 @@ use Rattle.rest_stream.proofs.Leading.{leads_closed, leads_end, leads_on}
 use Rattle.rest_replies.specs.declared.told.Told.{Told}
 use Rattle.rest_replies.specs.declared.told.Told.TheVariants as told
 use Rattle.rest_session.specs.Calls.{IsCalled, IsDone, asked_by}
-use Rattle.rest_session.specs.Answered.{AreBlamed, ArePieces, AreSoFar, Begins, HasAnswered, HasEnded, HasServed, IsAnswered, IsBlamed, IsCutIn, IsPiece, IsRefused, IsServed, IsStopped, Piece, end_of, fault_told, in_order, raws_of, replies_of}
+use Rattle.rest_session.specs.Answered.{AreBlamed, ArePieces, Begins, HasAnswered, HasEnded, HasServed, IsAnswered, IsBlamed, IsCutIn, IsPiece, IsRefused, IsServed, IsStopped, Piece, end_of, fault_told, in_order, raws_of, replies_of}
 use Rattle.rest_session.specs.declared.calls.Asked.{Asked}
 use Rattle.rest_session.specs.declared.calls.Asked.TheVariants as asked
 use Rattle.rest_session.specs.declared.session.LinkEnd.{LinkEnd}
 use Rattle.rest_session.specs.declared.session.LinkEnd.TheVariants as end
 use Rattle.rest_session.proofs.Refusing.{nothing_more, refused_silent}
+
+-- pieces so far, of the first requests, whose replies are out
+pub record AreSoFar (old new : Option (List ℕ)) (raws : List RawRequest) (rules : Rules) (seen : List Event) (before now : ℕ) (made : List Entry) (copies : List ChunkCopy) : Type 0 where
+  pub pieces : List Piece
+  pub are : ArePieces rules seen pieces made copies
+  pub blamed : AreBlamed before now pieces
+  pub raws_are : raws ≡ raws_of pieces
+  pub out : new ≡ appended old (replies_of pieces)
 
 -- these requests were answered, with their replies out
 abbrev pub HasSoFar : Known → Known → Copies → Copies → Option (List ℕ) → Option (List ℕ) → List RawRequest → Type 0

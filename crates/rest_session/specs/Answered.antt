@@ -144,14 +144,6 @@ pub record IsAnswered {E : Type 0} (raw : RawRequest) (old new : Option (List �
 abbrev pub HasAnswered : {E : Type 0} → Known → Known → Copies → Copies → RawRequest → Option (List ℕ) → Option (List ℕ) → Result (Unit {0}) E → Type 0
 HasAnswered v w k l raw old new result = HasMade (IsAnswered raw old new result v.rules w.seen v.blamed w.blamed) v w k l
 
--- pieces so far, of the first requests, whose replies are out
-pub record AreSoFar (old new : Option (List ℕ)) (raws : List RawRequest) (rules : Rules) (seen : List Event) (before now : ℕ) (made : List Entry) (copies : List ChunkCopy) : Type 0 where
-  pub pieces : List Piece
-  pub are : ArePieces rules seen pieces made copies
-  pub blamed : AreBlamed before now pieces
-  pub raws_are : raws ≡ raws_of pieces
-  pub out : new ≡ appended old (replies_of pieces)
-
 -- a reply to what is told was written
 abbrev pub IsReplied : {E : Type 0} → Told → Option (List ℕ) → Option (List ℕ) → Result (Unit {0}) E → Type 0
 IsReplied t old new result = (reply : List ℕ) × IsReply t reply × IsWritten old new result reply

@@ -8,7 +8,8 @@ ghost use Rattle.core_laws.specs.Events.{is_close};
 ghost use Rattle.mover_rounds.specs.Drained.{IsDrainCause};
 ghost use Rattle.mover_rounds.specs.Exact.{HasDrainedAlone};
 ghost use Rattle.mover_rounds.specs.Made.{copier_of};
-ghost use Rattle.mover_rounds.specs.Owned.{IsSince, known_by_owner};
+ghost use Rattle.control_core.specs.Books.{IsSince};
+ghost use Rattle.mover_rounds.specs.Owned.{known_by_owner};
 ghost use Rattle.rest_session.specs.Sessions.{IsSession};
 
 use crate::session::{LinkEnd, serve};

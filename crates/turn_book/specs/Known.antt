@@ -23,7 +23,7 @@ pub record Known (O E : Type 0) : Type 0 where
   pub noted : ℕ
 
 -- what callers see of a view, and of the number that was noted
-abbrev pub known_of : {O E : Type 0} → TableId → View O E → ℕ → Known O E
+abbrev pub known_of : {B O E : Type 0} → TableId → View B O E → ℕ → Known O E
 known_of table v noted = record { table = table; from = v.opening; seen = v.seen; mine = v.mine; parts = v.parts; last = v.last; noted = noted }
 
 -- the pass belongs to the turn, and each of its entries stands at its place in what it has seen
@@ -86,11 +86,13 @@ pub record HasJoined {O E : Type 0} (v other w : Known O E) : Type 0 where
   pub parts : w.parts ≡ v.parts + other.parts
   pub last : w.last ≡ max v.last other.last
 
--- The journal is the history. Of its places from the first journal's length on the pass has each once, with its entry, and none other
-pub record IsWhole {B O E : Type 0} (opening : B → O) (journal : B → List E) (blamed : B → ℕ) (start : B) (v : Known O E) (book : B) : Type 0 where
+-- The journal is the history. Of its places from the first journal's length on the pass has each once, with its entry, and none other. The
+-- book has come of the one that the turn was made with, by its events
+pub record IsWhole {B O E : Type 0} (opening : B → O) (journal : B → List E) (blamed : B → ℕ) (since : B → B → Type 0) (start : B) (v : Known O E) (book : B) : Type 0 where
   pub opening_is : opening book ≡ opening start
   pub begins : IsPrefix (journal start) (journal book)
   pub seen : IsPrefix v.seen (journal book)
   pub each_once : (x : ℕ) → times x v.mine + once_below x (length (journal start)) ≡ once_below x (length (journal book))
   pub placed : ArePlaced (journal book) v.mine
   pub last : v.last ≤ blamed book
+  pub since_is : since start book

@@ -9,60 +9,61 @@ use Rattle.turn_book.specs.declared.rule.View.{View}
 
 -- a pass's view, and the slots that are out with it
 abbrev pub Seated : Type 0 → Type 0 → Type 0 → Type 0
-Seated B O E = Me (Option B) (View O E)
+Seated B O E = Me (Option B) (View B O E)
 
 -- the longer of two lists
 abbrev pub longer : {E : Type 0} → List E → List E → List E
 longer xs ys = if nat_le (length xs) (length ys) then ys else xs
 
-module _ {O E : Type 0} where
+module _ {B O E : Type 0} where
   -- the view with the turn, the whole history and the book's count of faults
-  abbrev pub holding : View O E → List E → ℕ → View O E
-  holding v log faults = record { opening = v.opening; seen = log; older = v.older; mine = v.mine; parts = v.parts; last = v.last; known = faults; holds = true }
+  abbrev pub holding : View B O E → List E → ℕ → View B O E
+  holding v log faults = record { start = v.start; opening = v.opening; seen = log; older = v.older; mine = v.mine; parts = v.parts; last = v.last; known = faults; holds = true }
 
   -- the view without the turn
-  abbrev pub freed : View O E → View O E
-  freed v = record { opening = v.opening; seen = v.seen; older = v.older; mine = v.mine; parts = v.parts; last = v.last; known = v.known; holds = false }
+  abbrev pub freed : View B O E → View B O E
+  freed v = record { start = v.start; opening = v.opening; seen = v.seen; older = v.older; mine = v.mine; parts = v.parts; last = v.last; known = v.known; holds = false }
 
   -- the view that has seen this history
-  abbrev pub seeing : View O E → List E → View O E
-  seeing v log = record { opening = v.opening; seen = log; older = v.older; mine = v.mine; parts = v.parts; last = v.last; known = v.known; holds = v.holds }
+  abbrev pub seeing : View B O E → List E → View B O E
+  seeing v log = record { start = v.start; opening = v.opening; seen = log; older = v.older; mine = v.mine; parts = v.parts; last = v.last; known = v.known; holds = v.holds }
 
   -- the view with one entry more
-  abbrev pub extended : View O E → E → View O E
-  extended v e = record { opening = v.opening; seen = v.seen ++ e ∷ []; older = v.older; mine = v.mine ++ (length v.seen, e) ∷ []; parts = v.parts; last = v.last; known = v.known; holds = v.holds }
+  abbrev pub extended : View B O E → E → View B O E
+  extended v e = record { start = v.start; opening = v.opening; seen = v.seen ++ e ∷ []; older = v.older; mine = v.mine ++ (length v.seen, e) ∷ []; parts = v.parts; last = v.last; known = v.known; holds = v.holds }
 
   -- the view that was answered this blame
-  abbrev pub blaming : View O E → ℕ → View O E
-  blaming v f = record { opening = v.opening; seen = v.seen; older = v.older; mine = v.mine; parts = v.parts; last = f; known = f; holds = v.holds }
+  abbrev pub blaming : View B O E → ℕ → View B O E
+  blaming v f = record { start = v.start; opening = v.opening; seen = v.seen; older = v.older; mine = v.mine; parts = v.parts; last = f; known = f; holds = v.holds }
 
   -- a pass with one part less
-  abbrev pub one_less : View O E → View O E
-  one_less v = record { opening = v.opening; seen = v.seen; older = v.older; mine = v.mine; parts = v.parts - 1; last = v.last; known = v.known; holds = v.holds }
+  abbrev pub one_less : View B O E → View B O E
+  one_less v = record { start = v.start; opening = v.opening; seen = v.seen; older = v.older; mine = v.mine; parts = v.parts - 1; last = v.last; known = v.known; holds = v.holds }
 
   -- a new pass with that part, which has seen as much and has no entry
-  abbrev pub told : View O E → View O E
-  told v = record { opening = v.opening; seen = v.seen; older = []; mine = []; parts = 1; last = v.last; known = 0; holds = false }
+  abbrev pub told : View B O E → View B O E
+  told v = record { start = v.start; opening = v.opening; seen = v.seen; older = []; mine = []; parts = 1; last = v.last; known = 0; holds = false }
 
   -- the view with all of another's; both histories that were seen are kept as older ones
-  abbrev pub joined : View O E → View O E → View O E
-  joined v w = record { opening = v.opening; seen = longer v.seen w.seen; older = v.seen ∷ w.seen ∷ []; mine = v.mine ++ w.mine; parts = v.parts + w.parts; last = max v.last w.last; known = v.known; holds = v.holds }
+  abbrev pub joined : View B O E → View B O E → View B O E
+  joined v w = record { start = v.start; opening = v.opening; seen = longer v.seen w.seen; older = v.seen ∷ w.seen ∷ []; mine = v.mine ++ w.mine; parts = v.parts + w.parts; last = max v.last w.last; known = v.known; holds = v.holds }
 
   -- the view without what was seen before a join
-  abbrev pub settled : View O E → View O E
-  settled v = record { opening = v.opening; seen = v.seen; older = []; mine = v.mine; parts = v.parts; last = v.last; known = v.known; holds = v.holds }
+  abbrev pub settled : View B O E → View B O E
+  settled v = record { start = v.start; opening = v.opening; seen = v.seen; older = []; mine = v.mine; parts = v.parts; last = v.last; known = v.known; holds = v.holds }
 
 -- the turn and the book are the pass's, which has seen the whole history
-pub record Taken {B O E : Type 0} (opening : B → O) (journal : B → List E) (blamed : B → ℕ) (m r : Seated B O E) : Type 0 where
+pub record Taken {B O E : Type 0} (opening : B → O) (journal : B → List E) (blamed : B → ℕ) (since : B → B → Type 0) (m r : Seated B O E) : Type 0 where
   pub book : B
   pub view : r.0 ≡ holding m.0 (journal book) (blamed book)
   pub carried : r.1 ≡ (0, Some book) ∷ m.1
   pub same : (o : O) → m.0.opening ≡ Some o → opening book ≡ o
   pub longer : IsPrefix m.0.seen (journal book)
   pub last : m.0.last ≤ blamed book
+  pub since_is : (s : B) → m.0.start ≡ Some s → since s book
 
-abbrev pub taken : {B O E : Type 0} → (B → O) → (B → List E) → (B → ℕ) → Step (Option B) → Seated B O E → ℕ → Seated B O E → Type 0
-taken opening journal blamed s m n r = (n ≡ 0 → Taken opening journal blamed m r) × (n ≢ 0 → r ≡ m)
+abbrev pub taken : {B O E : Type 0} → (B → O) → (B → List E) → (B → ℕ) → (B → B → Type 0) → Step (Option B) → Seated B O E → ℕ → Seated B O E → Type 0
+taken opening journal blamed since s m n r = (n ≡ 0 → Taken opening journal blamed since m r) × (n ≢ 0 → r ≡ m)
 
 -- the history of this length was seen
 pub record Looked {B O E : Type 0} (m : Seated B O E) (n : ℕ) (r : Seated B O E) : Type 0 where

@@ -41,6 +41,9 @@ pub trait Journaled {
     /// Whether idle callers may find work after a reply.
     ghost is_stirring: { Self.Reply → Bool };
 
+    /// What a book has become: a relation to what it was, which each event keeps.
+    ghost since: { Self → Self → Type 0 };
+
     /// Takes an event, answers it and adds it to the journal.
     ///
     /// # Errors
@@ -50,6 +53,7 @@ pub trait Journaled {
     fn step(&mut self, event: Self::Event) -> Result<Self::Reply, (Self::Fault, Self::Event)>
         // An event that is answered is the journal's last, and the reply is the rule's.
         ensures opening { opening self.new ≡ opening self.old }
+        ensures since { since self.old self.new }
         ensures entry { OnOk result (journal self.new ≡ journal self.old ++ event ∷ []) }
         ensures reply { IfOk result
             (λ r. r ≡ reply_of (opening self.old) (journal self.old) event) }
@@ -81,4 +85,10 @@ pub trait Journaled {
     /// The number of the last outside fault, or 0.
     fn blame_so_far(&self) -> u64
         ensures { result ≡ blamed self.now };
+
+    /// A book that took no event.
+    ghost stays: { (b : Self) → since b b };
+
+    /// A book that took some events and then others.
+    ghost goes_on: { (b c d : Self) → since b c → since c d → since b d };
 }

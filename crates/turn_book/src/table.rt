@@ -33,14 +33,14 @@ const BOOK: usize = 0;
 /// The seat of a pass. It has no bytes.
 pub(crate) type Place<B> = Seat<
     Option<B>,
-    View<<B as Journaled>::Opening, <B as Journaled>::Event>,
+    View<B, <B as Journaled>::Opening, <B as Journaled>::Event>,
 >;
 
 /// The table under a turn.
 pub struct BookTable<B: Journaled> {
     pub(crate) inner: Table<
         Option<B>,
-        View<B::Opening, B::Event>,
+        View<B, B::Opening, B::Event>,
         Snapshot<B>,
         TurnRule<B>,
         Global,
@@ -81,7 +81,7 @@ impl<B: Journaled> BookTable<B> {
         requires own { IsSeatOf B.opening self.now.inner.shared.table_id
             self.now.inner.shared.key.value place.old.table_id place.old.me }
         ensures same { place.new.table_id ≡ place.old.table_id }
-        ensures turn { HasTurn B.opening B.journal B.blamed self.now.inner.shared.key.value
+        ensures turn { HasTurn B.opening B.journal B.blamed B.since self.now.inner.shared.key.value
             place.old.me.0 place.new.me result }
     {
         for _ in rt.forever() {
@@ -101,7 +101,7 @@ impl<B: Journaled> BookTable<B> {
     // Puts the book back, and ends the turn.
     fn give(&self, place: &mut Place<B>, book: B)
         requires same { place.old.table_id ≡ self.now.inner.shared.table_id }
-        requires may { MayEnd B.opening B.journal B.blamed self.now.inner.shared.key.value
+        requires may { MayEnd B.opening B.journal B.blamed B.since self.now.inner.shared.key.value
             place.old.me book }
         ensures table { place.new.table_id ≡ place.old.table_id }
         ensures freed { place.new.me ≡ (freed place.old.me.0, []) }
@@ -256,7 +256,7 @@ impl<B: Journaled> BookTable<B> {
         requires own { IsSeatOf B.opening self.inner.shared.table_id self.inner.shared.key.value
             place.table_id place.me }
         requires parts { place.me.0.parts ≡ 1048576 }
-        ensures { IsWhole B.opening B.journal B.blamed self.inner.shared.key.value
+        ensures { IsWhole B.opening B.journal B.blamed B.since self.inner.shared.key.value
             (known_of place.table_id place.me.0 0) result }
     {
         let BookTable { inner } = self;

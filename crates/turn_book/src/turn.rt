@@ -169,7 +169,7 @@ impl<B: Journaled> Turn<B> {
     pub fn close(self, pass: Pass<B>) -> B
         requires own { IsPassOf B.opening self pass }
         requires parts { pass.parts ≡ 1048576 }
-        ensures { IsWhole B.opening B.journal B.blamed self.start pass result }
+        ensures { IsWhole B.opening B.journal B.blamed B.since self.start pass result }
     {
         let Turn { table } = self;
         table.close(pass.into_place())

@@ -34,6 +34,7 @@ returns-in-Ok-clause-over g c = λ outside h.
       record {
         b = c.args.book;
         opening = c.requires.opened;
+        begun = refl;
         given = c.args.team;
         given_is = h;
         back = live.team;
@@ -65,6 +66,7 @@ returns-in-Err-clause-over g c = λ outside h.
       refl,
       record {
         opening = c.requires.opened;
+        begun = refl;
         lists = c.journal-lists.ensures.lists;
         idle = record { outside = same; links = c.requires.ready.none; movers = c.requires.ready.no_mover; planners = c.requires.ready.no_planner; drain = refl };
       },

@@ -11,7 +11,7 @@ use Rattle.live_service.proofs.live.run_live_service.Goals as goal
 pub settle-requires : goal.settle-requires
 settle-requires g c =
     let r = c.in_ok-book in
-    is_closed (HasAnswered c.args.book.file (serving_told c.args.serving) (told_of c.args.team.front) (told_of r.team.front) r.end) c.args.book r.book c.args.team r.team c.args.movers c.args.planners r.ensures.shared
+    is_closed g.P.Gate.Admin.faults (HasAnswered c.args.book.file (serving_told c.args.serving) (told_of c.args.team.front) (told_of r.team.front) r.end) c.args.book r.book c.args.team r.team c.args.movers c.args.planners r.ensures.shared
 
 pub returns-clause-sound : goal.returns-clause-sound
 returns-clause-sound g c = c.every_history.ensures.histories c.finish-drain.new.book.file c.finish-drain.new.book.journal c.journal-legal.ensures.input c.journal-legal.ensures.legal
@@ -36,8 +36,8 @@ returns-clause-live g c =
       closed = r.book;
       between = team_of old;
       between_is = refl;
-      shared = subst (λ (t : TeamView). IsShared (λ xs ys. IsFront (HasAnswered c.args.book.file (serving_told c.args.serving) (told_of c.args.team.front) (told_of t.front) r.end xs ys)) c.args.book r.book c.args.team t c.args.movers c.args.planners) (sym between_is)
-          (closes_once (serving_told c.args.serving) (told_of c.args.team.front) (told_of r.team.front) r.end c.args.book r.book c.args.team r.team c.args.movers c.args.planners r.ensures.shared);
+      shared = subst (λ (t : TeamView). IsShared g.P.Gate.Admin.faults (λ xs ys. IsFront (HasAnswered c.args.book.file (serving_told c.args.serving) (told_of c.args.team.front) (told_of t.front) r.end xs ys)) c.args.book r.book c.args.team t c.args.movers c.args.planners) (sym between_is)
+          (closes_once g.P.Gate.Admin.faults (serving_told c.args.serving) (told_of c.args.team.front) (told_of r.team.front) r.end c.args.book r.book c.args.team r.team c.args.movers c.args.planners r.ensures.shared);
       settled = c.settle.new.self;
       settled_is = c.settle.ensures;
       behind = record {

@@ -2,7 +2,7 @@ use Rattle.std.proofs.Common.{◌∙◌, refl}
 use Rattle.core_terms.specs.declared.faults.StepFault.TheVariants.{AdminFault, Memory}
 use Rattle.mover_rounds.specs.Made.{copier_of}
 use Rattle.mover_rounds.specs.Owned.{known_by_owner}
-use Rattle.mover_rounds.specs.Since.{since_itself, since_on}
+use Rattle.control_core.specs.Since.{since_itself, since_on}
 use Rattle.mover_rounds.proofs.Behind.{no_round, then_broken, then_idle, then_some}
 use Rattle.mover_rounds.proofs.Ending.{cause_earlier}
 use Rattle.mover_rounds.proofs.drains.rounds.Goals as goal
@@ -43,9 +43,9 @@ returns-in-Err-Memory-clause-rounds g c =
 pub returns-in-Err-AdminFault-clause-cause : goal.returns-in-Err-AdminFault-clause-cause
 returns-in-Err-AdminFault-clause-cause g c =
     let inv = c.loop-number.invariant in
-    rw c.in-Err-AdminFault.field-0-is (cause_earlier (known_by_owner c.args.book.now) (known_by_owner c.loop-number.book) (known_by_owner c.work.new.book) (AdminFault c.in-Err-AdminFault.number) inv.did.rules inv.did.longer inv.kept (rw c.in-Err-AdminFault.field-0-is at c.in-Err-AdminFault.ensures.cause))
+    rw c.in-Err-AdminFault.field-0-is (cause_earlier (known_by_owner c.args.book.now) (known_by_owner c.loop-number.book) (known_by_owner c.work.new.book) (AdminFault c.in-Err-AdminFault.number) inv.kept (rw c.in-Err-AdminFault.field-0-is at c.in-Err-AdminFault.ensures.cause))
 
 pub returns-in-Err-Memory-clause-cause : goal.returns-in-Err-Memory-clause-cause
 returns-in-Err-Memory-clause-cause g c =
     let inv = c.loop-number.invariant in
-    cause_earlier (known_by_owner c.args.book.now) (known_by_owner c.loop-number.book) (known_by_owner c.work.new.book) Memory inv.did.rules inv.did.longer inv.kept (rw c.in-Err-Memory.field-0-is at c.in-Err-Memory.ensures.cause)
+    cause_earlier (known_by_owner c.args.book.now) (known_by_owner c.loop-number.book) (known_by_owner c.work.new.book) Memory inv.kept (rw c.in-Err-Memory.field-0-is at c.in-Err-Memory.ensures.cause)

@@ -3,7 +3,8 @@ use Rattle.control_core.specs.Books.{state_of}
 use Rattle.core_laws.specs.Alone.{IsQuiet, active_jobs}
 use Rattle.mover_rounds.specs.Drained.{AreSome}
 use Rattle.mover_rounds.specs.Made.{HasMade, copier_of}
-use Rattle.mover_rounds.specs.Owned.{IsSince, known_by_owner}
+use Rattle.control_core.specs.Books.{IsSince}
+use Rattle.mover_rounds.specs.Owned.{known_by_owner}
 use Rattle.mover_rounds.specs.Asked.{core_rules}
 use Rattle.mover_rounds.proofs.drains.rounds.Given as goal
 

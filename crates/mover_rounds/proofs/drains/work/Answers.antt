@@ -3,7 +3,7 @@ use Rattle.control_core.specs.Books.{state_of}
 use Rattle.mover_rounds.specs.Drained.{IsFoundBy}
 use Rattle.mover_rounds.specs.Made.{HasRound, copier_of}
 use Rattle.mover_rounds.specs.Owned.{known_by_owner}
-use Rattle.mover_rounds.specs.Since.{since_itself, since_on}
+use Rattle.control_core.specs.Since.{since_itself, since_on}
 use Rattle.mover_rounds.proofs.Behind.{each_stop, no_round, some_broken, some_found, some_worked}
 use Rattle.mover_rounds.proofs.Draining.{quiet_planned, quiet_worked, round_idle, round_planned, round_worked}
 use Rattle.mover_rounds.proofs.Ending.{cause_earlier}
@@ -65,4 +65,4 @@ returns-in_err-found-clause-found g c =
 pub returns-in_err-found-clause-cause : goal.returns-in_err-found-clause-cause
 returns-in_err-found-clause-cause g c =
     let inv = c.loop-found.invariant in
-    rw (passed_on c.from_residual.result c.in_err-found.field-0.0 c.from_residual.ensures.1 (λ e q. q)) (cause_earlier (known_by_owner c.args.book.now) (known_by_owner c.loop-found.book) (known_by_owner c.one_round.new.asker) c.in_err-found.field-0.0 inv.did.rules inv.did.longer inv.kept c.in_err-found.ensures.cause)
+    rw (passed_on c.from_residual.result c.in_err-found.field-0.0 c.from_residual.ensures.1 (λ e q. q)) (cause_earlier (known_by_owner c.args.book.now) (known_by_owner c.loop-found.book) (known_by_owner c.one_round.new.asker) c.in_err-found.field-0.0 inv.kept c.in_err-found.ensures.cause)

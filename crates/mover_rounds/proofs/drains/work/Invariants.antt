@@ -4,7 +4,8 @@ use Rattle.core_laws.specs.Alone.{IsQuiet, active_jobs}
 use Rattle.exec_terms.specs.Valid.{work_left}
 use Rattle.mover_rounds.specs.Drained.{AreSome}
 use Rattle.mover_rounds.specs.Made.{HasMade, copier_of}
-use Rattle.mover_rounds.specs.Owned.{IsSince, known_by_owner}
+use Rattle.control_core.specs.Books.{IsSince}
+use Rattle.mover_rounds.specs.Owned.{known_by_owner}
 use Rattle.mover_rounds.specs.Asked.{core_rules}
 use Rattle.mover_rounds.proofs.drains.work.Given as goal
 

@@ -46,7 +46,7 @@ returns-in-Err-Memory-clause-since g c = g.met.X.Asker.goes_on _ c.loop-done.ask
 pub returns-in-Err-AdminFault-clause-cause : goal.returns-in-Err-AdminFault-clause-cause
 returns-in-Err-AdminFault-clause-cause g c =
     let h = c.loop-done.invariant in
-    rw c.in-Err-AdminFault.field-0-is (cause_earlier (g.X.Asker.known c.args.asker.now) (g.X.Asker.known c.loop-done.asker) (g.X.Asker.known c.one_round.new.asker) (AdminFault c.in-Err-AdminFault.number) h.did.rules h.did.longer h.kept (rw c.in-Err-AdminFault.field-0-is at c.in-Err-AdminFault.ensures.cause))
+    rw c.in-Err-AdminFault.field-0-is (cause_earlier (g.X.Asker.known c.args.asker.now) (g.X.Asker.known c.loop-done.asker) (g.X.Asker.known c.one_round.new.asker) (AdminFault c.in-Err-AdminFault.number) h.kept (rw c.in-Err-AdminFault.field-0-is at c.in-Err-AdminFault.ensures.cause))
 
 pub returns-in-Ok-Idle-clause-pumped : goal.returns-in-Ok-Idle-clause-pumped
 returns-in-Ok-Idle-clause-pumped g c =
@@ -64,4 +64,4 @@ returns-in-Err-Memory-clause-pumped g c =
 pub returns-in-Err-Memory-clause-cause : goal.returns-in-Err-Memory-clause-cause
 returns-in-Err-Memory-clause-cause g c =
     let h = c.loop-done.invariant in
-    cause_earlier (g.X.Asker.known c.args.asker.now) (g.X.Asker.known c.loop-done.asker) (g.X.Asker.known c.one_round.new.asker) Memory h.did.rules h.did.longer h.kept (rw c.in-Err-Memory.field-0-is at c.in-Err-Memory.ensures.cause)
+    cause_earlier (g.X.Asker.known c.args.asker.now) (g.X.Asker.known c.loop-done.asker) (g.X.Asker.known c.one_round.new.asker) Memory h.kept (rw c.in-Err-Memory.field-0-is at c.in-Err-Memory.ensures.cause)

@@ -57,7 +57,7 @@ returns-in-Err-AdminFault-clause-moved g c =
 pub returns-in-Err-AdminFault-clause-cause : goal.returns-in-Err-AdminFault-clause-cause
 returns-in-Err-AdminFault-clause-cause g c =
     let h = c.loop.invariant in
-    rw c.in-Err-AdminFault.field-0-is (cause_earlier (g.X.Asker.known c.args.asker.now) (g.X.Asker.known c.loop.asker) (g.X.Asker.known c.move_step.new.asker) (AdminFault c.in-Err-AdminFault.number) h.did.rules h.did.longer h.kept (rw c.in-Err-AdminFault.field-0-is at c.in-Err-AdminFault.ensures.cause))
+    rw c.in-Err-AdminFault.field-0-is (cause_earlier (g.X.Asker.known c.args.asker.now) (g.X.Asker.known c.loop.asker) (g.X.Asker.known c.move_step.new.asker) (AdminFault c.in-Err-AdminFault.number) h.kept (rw c.in-Err-AdminFault.field-0-is at c.in-Err-AdminFault.ensures.cause))
 
 pub returns-in-Err-Memory-clause-since : goal.returns-in-Err-Memory-clause-since
 returns-in-Err-Memory-clause-since g c = g.met.X.Asker.goes_on _ c.loop.asker _ c.loop.invariant.since c.move_step.ensures.since

@@ -1,5 +1,5 @@
 use Rattle.core_terms.specs.declared.events.Event.TheVariants as event
-use Rattle.mover_rounds.proofs.Owning.{since_step}
+use Rattle.control_core.proofs.Lasting.{since_step}
 use Rattle.rest_session.proofs.whole.close.Goals as goal
 
 pub returns-clause-since : goal.returns-clause-since

@@ -1,5 +1,5 @@
 use Rattle.mover_rounds.specs.Made.{copier_of}
-use Rattle.mover_rounds.specs.Since.{since_itself}
+use Rattle.control_core.specs.Since.{since_itself}
 use Rattle.rest_session.proofs.Sessions.{drained_none}
 use Rattle.rest_session.proofs.whole.finish.Goals as goal
 

@@ -1,6 +1,6 @@
 use Rattle.std.proofs.Common.{◌∙◌, arith}
 use Rattle.mover_rounds.specs.Made.{copier_of}
-use Rattle.mover_rounds.specs.Since.{since_on}
+use Rattle.control_core.specs.Since.{since_on}
 use Rattle.rest_session.proofs.Sessions.{link_open, session}
 use Rattle.rest_session.proofs.whole.run_session.Goals as goal
 

@@ -8,5 +8,5 @@ compare_exchange_with-requires g c =
     let start = c.args.self.now.inner.shared.key.value in (
       search rules,
       search rules,
-      publishes_entry J.opening J.journal J.blamed start _ _ c.args.count c.args.place.now.me c.args.book c.requires.entry.0 c.requires.parts c.requires.holds c.requires.count c.requires.entry.1,
+      publishes_entry J.opening J.journal J.blamed J.since start _ _ c.args.count c.args.place.now.me c.args.book c.requires.entry.0 c.requires.parts c.requires.holds c.requires.count c.requires.entry.1,
     )

@@ -7,7 +7,7 @@ use Rattle.turn_book.proofs.table.BookTable.take.Goals as goal
 pub compare_exchange-requires : goal.compare_exchange-requires
 compare_exchange-requires g c =
     let J = g.B.Journaled in
-    (search rules, search rules, takes_turn J.opening J.journal J.blamed c.args.self.now.inner.shared.key.value _ _ _ (subst (λ (m : Seated g.row.B.Denot g.row.B-Opening.Denot g.row.B-Event.Denot). 0 < m.0.parts) (sym c.loop.invariant.1) c.requires.own.idle.some_part))
+    (search rules, search rules, takes_turn J.opening J.journal J.blamed J.since c.args.self.now.inner.shared.key.value _ _ _ (subst (λ (m : Seated g.row.B.Denot g.row.B-Opening.Denot g.row.B-Event.Denot). 0 < m.0.parts) (sym c.loop.invariant.1) c.requires.own.idle.some_part))
 
 pub exchange-requires : goal.exchange-requires
 exchange-requires g c =
