@@ -1,6 +1,6 @@
-// Pumps and drains of a book, whose admin and copier fail where a row says so. Where a call fails
-// the test panics, in place of `?`, so that a book is dropped at one place alone: the proof of each
-// drop is long.
+// Pumps and drains of a book, whose admin and copier fail where a row says so, and between whose
+// rounds a stop or a death comes. Where a call fails the test panics, in place of `?`, so that a
+// book is dropped at one place alone: the proof of each drop is long.
 use crate::books::{TWO, TestBook, ask, book_of};
 use cluster_gate::{FailingCopier, MemoryCopier};
 use core_terms::{Event, Reply};
@@ -15,6 +15,7 @@ use user_tasks::Op;
 enum Step {
     Pump(u32),
     Stop(bool),
+    Kill(u32),
     Drain,
 }
 
@@ -56,28 +57,40 @@ impl Run {
                 let end = drain(rt, alloc, &mut self.book, &mut self.copier);
                 format!(in alloc; "{end:?}")
             }
-            Step::Stop(force) => match self.book.step(Event::Stop(force)) {
-                Ok(Reply::Stopped(stopped)) => {
-                    format!(in alloc; "{} {}", stopped.aborted, stopped.aborting)
-                }
-                Ok(_) => String::from_str(alloc, "nothing"),
-                Err(_) => String::from_str(alloc, "fault"),
-            },
+            Step::Stop(force) => self.disturb(alloc, Event::Stop(force)),
+            Step::Kill(broker) => self.disturb(alloc, Event::Kill(broker)),
+        }
+    }
+
+    // Takes a stop or a death, and tells how many tasks end at once, and how many are to be undone.
+    fn disturb(&mut self, alloc: Global, event: Event) -> Result<String, AllocError> {
+        match self.book.step(event) {
+            Ok(Reply::Stopped(stopped)) => {
+                format!(in alloc; "{} {}", stopped.aborted, stopped.aborting)
+            }
+            Ok(Reply::Killed(killed)) => {
+                format!(in alloc; "{} {}", killed.dead, killed.aborting)
+            }
+            Ok(Reply::NothingToStop) => String::from_str(alloc, "nothing"),
+            Ok(Reply::NoSuchBroker(_)) => String::from_str(alloc, "no such broker"),
+            Ok(_) => String::from_str(alloc, "another"),
+            Err(_) => String::from_str(alloc, "fault"),
         }
     }
 }
 
 // A run: the calls of the admin and of the copier that fail, the steps with their ends, the list
 // and the entries in the end.
-struct Row {
-    admin: &'static [u64],
-    copier: &'static [u64],
-    steps: &'static [(Step, &'static str)],
-    list: &'static [u32],
+#[derive(Clone, Copy)]
+struct Row<'a> {
+    admin: &'a [u64],
+    copier: &'a [u64],
+    steps: &'a [(Step, &'a str)],
+    list: &'a [u32],
     entries: usize,
 }
 
-const ROWS: [Row; 9] = [
+const ROWS: [Row; 6] = [
     Row {
         admin: &[],
         copier: &[],
@@ -128,40 +141,6 @@ const ROWS: [Row; 9] = [
         list: &[0],
         entries: 17,
     },
-    // a stop by force before the copy, behind it, and behind the commit
-    Row {
-        admin: &[],
-        copier: &[],
-        steps: &[
-            (Step::Pump(1), "Done { done: 1, idle: false }"),
-            (Step::Stop(true), "1 0"),
-            (Step::Drain, "Drained"),
-        ],
-        list: &[0],
-        entries: 6,
-    },
-    Row {
-        admin: &[],
-        copier: &[],
-        steps: &[
-            (Step::Pump(2), "Done { done: 2, idle: false }"),
-            (Step::Stop(true), "0 1"),
-            (Step::Drain, "Drained"),
-        ],
-        list: &[0],
-        entries: 12,
-    },
-    Row {
-        admin: &[],
-        copier: &[],
-        steps: &[
-            (Step::Pump(3), "Done { done: 3, idle: false }"),
-            (Step::Stop(true), "nothing"),
-            (Step::Drain, "Drained"),
-        ],
-        list: &[1],
-        entries: 12,
-    },
 ];
 
 fn run_row<R: Threads + Sync + Abort>(rt: &R, alloc: Global, row: &Row) {
@@ -176,8 +155,58 @@ fn run_row<R: Threads + Sync + Abort>(rt: &R, alloc: Global, row: &Row) {
 }
 
 #[test]
-fn pumps_and_drains_end_as_their_admin_copier_and_stops_say(rt: HostRuntime) {
+fn pumps_and_drains_end_as_their_admin_and_copier_say(rt: HostRuntime) {
     for row in &ROWS {
         run_row(&rt, rt.alloc(), row);
+    }
+}
+
+// A stop or a death, behind how many rounds it comes, its answer, and the list and the entries in
+// the end. The first round plans, the second copies and the third commits.
+type Disturbance = (u32, Step, &'static str, &'static [u32], usize);
+
+const DISTURBANCES: [Disturbance; 15] = [
+    (1, Step::Stop(true), "1 0", &[0], 6),
+    (2, Step::Stop(true), "0 1", &[0], 12),
+    (3, Step::Stop(true), "nothing", &[1], 12),
+    (1, Step::Stop(false), "1 0", &[0], 6),
+    (2, Step::Stop(false), "0 0", &[1], 12),
+    (3, Step::Stop(false), "nothing", &[1], 12),
+    // the broker that the task adds
+    (1, Step::Kill(1), "1 0", &[0], 6),
+    (2, Step::Kill(1), "0 1", &[0], 12),
+    (3, Step::Kill(1), "0 0", &[1], 12),
+    // the broker that it removes
+    (1, Step::Kill(0), "0 0", &[1], 12),
+    (2, Step::Kill(0), "0 0", &[1], 12),
+    (3, Step::Kill(0), "0 0", &[1], 12),
+    // a broker that isn't there
+    (1, Step::Kill(2), "no such broker", &[1], 12),
+    (2, Step::Kill(2), "no such broker", &[1], 12),
+    (3, Step::Kill(2), "no such broker", &[1], 12),
+];
+
+fn run_disturbed<R: Threads + Sync + Abort>(rt: &R, alloc: Global, disturbance: &Disturbance) {
+    let (rounds, step, answer, list, entries) = *disturbance;
+    let pumped = format!(in alloc; "Done {{ done: {rounds}, idle: false }}");
+    let pumped = pumped.expect(rt, "memory");
+    let row = Row {
+        admin: &[],
+        copier: &[],
+        steps: &[
+            (Step::Pump(rounds), pumped.as_str()),
+            (step, answer),
+            (Step::Drain, "Drained"),
+        ],
+        list,
+        entries,
+    };
+    run_row(rt, alloc, &row);
+}
+
+#[test]
+fn drains_end_well_with_a_stop_or_a_death_between_rounds(rt: HostRuntime) {
+    for disturbance in &DISTURBANCES {
+        run_disturbed(&rt, rt.alloc(), disturbance);
     }
 }

@@ -2,7 +2,7 @@
 ghost use Rattle.std.specs.Prelude.{◌≡◌, [], Some};
 ghost use Rattle.test_fakes.specs.Handed.{AreFresh};
 
-use cc_base::{Joined, Sink};
+use cc_base::{Failed, Joined, Sink, Source};
 use cluster_gate::{FailingCopier, MemoryCopier};
 use std::alloc::Global;
 use std::process::Abort;
@@ -78,4 +78,35 @@ pub fn listener_of<R: Abort>(
 /// A listener without links.
 pub fn silent_listener<R: Abort>(rt: &R, alloc: Global) -> TestListener {
     listener_of(rt, alloc, Vec::new(alloc), &[])
+}
+
+/// A source that gives one byte by each read.
+#[derive(Drop)]
+pub struct ByteByByte {
+    inner: MemorySource,
+}
+
+impl Source for ByteByByte {
+    ghost faults = { λ s. ⟦<MemorySource as Source>⟧.faults s.inner };
+
+    ghost left = { λ s. ⟦<MemorySource as Source>⟧.left s.inner };
+
+    ghost beside = { λ s. ⟦<MemorySource as Source>⟧.beside s.inner };
+
+    fn read(&mut self, buf: &mut [u8]) -> Result<usize, Failed> {
+        self.inner.read(&mut buf[..1])
+    }
+}
+
+/// A link that asks this byte by byte, until the read with this number fails. The first has the
+/// number 0.
+pub fn slow_link_of<R: Abort>(
+    rt: &R,
+    alloc: Global,
+    asks: &str,
+    failing: u64,
+) -> Joined<Failing<ByteByByte>, MemorySink> {
+    let inner = MemorySource::new(asks.as_bytes().to_vec(alloc).expect(rt, "memory"));
+    let source = Failing::new(ByteByByte { inner }, numbers(rt, alloc, &[failing]));
+    Joined::new(source, MemorySink::new(alloc))
 }

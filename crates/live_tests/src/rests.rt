@@ -1,4 +1,4 @@
-// Rests of a pass of a shared book.
+// Rests and entries of the passes of a shared book.
 use crate::books::{TestBook, book_of, let_go};
 use crate::texts::FOUR;
 use core_terms::{Event, Reason, Reply};
@@ -25,4 +25,22 @@ fn a_rest_ends_at_what_stirred_between_two_looks(rt: HostRuntime) {
     turn.rest(&rt, &mut pass);
     turn.join(&mut pass, other);
     let_go(turn.close(pass));
+}
+
+// The entry of a pass that was split off and joined again is the only one of the book.
+#[test]
+fn a_joined_pass_leaves_its_one_entry(rt: HostRuntime) {
+    let Ok((turn, mut pass)) = Turn::<TestBook>::new(
+        rt.alloc(),
+        book_of(&rt, rt.alloc(), FOUR, &[]),
+    ) else {
+        panic!(rt; "no turn");
+    };
+    let mut other = turn.split(&mut pass);
+    let closed = turn.act(&rt, &mut other, Event::Close).ok();
+    assert!(rt; matches!(closed, Some(Reply::Closed)));
+    turn.join(&mut pass, other);
+    let book = turn.close(pass);
+    assert!(rt; matches!(book.journal(), [Event::Close]));
+    let_go(book);
 }

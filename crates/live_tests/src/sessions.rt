@@ -19,15 +19,15 @@ const REMOVING: Setting = Setting {
     links: None,
 };
 
-// The console's requests are answered, nothing is left to do, and no copy waited in vain. Brokers 2
-// and 3 have the partitions. The replies are those of the replay.
+// The console's requests are answered, nothing is left to do, and no copy waited in vain. Broker 2
+// has both partitions. The replies are those of the replay.
 fn expect_removed<P: Parties, R: Abort>(rt: &R, over: &Over<P>, written: &[u8]) {
     assert_eq!(rt; over.end, FrontEnd::Console(LinkEnd::Ended));
     assert_eq!(rt; over.drain, DrainEnd::Drained);
     assert_eq!(rt; over.book.failed_copies, 0);
     assert_eq!(rt; over.book.lists.len(), 2);
     for list in over.book.lists.iter() {
-        assert!(rt; matches!(list.as_slice(), [2] | [3]));
+        assert_eq!(rt; list.as_slice(), [2].as_slice());
     }
     assert_eq!(rt; over.book.replies.as_slice(), written);
 }

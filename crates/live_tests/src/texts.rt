@@ -1,4 +1,5 @@
 // Cluster files, requests, and the replies to them.
+use std::alloc::Global;
 use std::process::Abort;
 
 /// Two brokers, and a partition on the first.
@@ -29,6 +30,23 @@ pub const KEYS: &str =
 pub const KEYS_ANSWERED: &str =
     "HTTP/1.1 202 Accepted\r\nContent-Type: application/json\r\nContent-Length: 83\r\nUser-Task-ID: 00000000-0000-8000-8000-000000000001\r\n\r\n{\"status\":\"Active\",\"userTaskId\":\"00000000-0000-8000-8000-000000000001\",\"version\":1}HTTP/1.1 202 Accepted\r\nContent-Type: application/json\r\nContent-Length: 83\r\nUser-Task-ID: 00000000-0000-8000-8000-000000000001\r\n\r\n{\"status\":\"Active\",\"userTaskId\":\"00000000-0000-8000-8000-000000000001\",\"version\":1}HTTP/1.1 400 Bad Request\r\nContent-Type: application/json\r\nContent-Length: 82\r\n\r\n{\"errorMessage\":\"other request: 00000000-0000-8000-8000-000000000001\",\"version\":1}";
 
+/// That broker 0 is removed, an execution that isn't begun beside that one, rounds that end it, and
+/// the lists that it leaves.
+pub const MOVES: &str =
+    "POST /kafkacruisecontrol/remove_broker?brokerid=0&dryrun=false HTTP/1.1\r\n\r\nPOST /kafkacruisecontrol/rebalance?dryrun=false HTTP/1.1\r\n\r\nPOST /cluster/pump?steps=10 HTTP/1.1\r\n\r\nGET /kafkacruisecontrol/kafka_cluster_state HTTP/1.1\r\n\r\n";
+
+/// The reply to what isn't begun beside the removal.
+pub const BUSY: &str =
+    "HTTP/1.1 409 Conflict\r\nContent-Type: application/json\r\nContent-Length: 89\r\n\r\n{\"errorMessage\":\"execution unfinished: 00000000-0000-8000-8000-000000000001\",\"version\":1}";
+
+/// The reply to the rounds.
+pub const PUMPED: &str =
+    "HTTP/1.1 200 OK\r\nContent-Type: application/json\r\nContent-Length: 34\r\n\r\n{\"done\":3,\"idle\":true,\"version\":1}";
+
+/// The reply with the lists.
+pub const LISTED: &str =
+    "HTTP/1.1 200 OK\r\nContent-Type: application/json\r\nContent-Length: 114\r\n\r\n{\"deadBrokers\":[],\"partitions\":[{\"adding\":[],\"partition\":0,\"removing\":[],\"replicas\":[1],\"topic\":\"t\"}],\"version\":1}";
+
 /// How far the executor is.
 pub const STATE: &str = "GET /kafkacruisecontrol/state HTTP/1.1\r\n\r\n";
 
@@ -45,4 +63,13 @@ pub const ACCEPTED_AND_MOVING: &str =
 pub fn expect_text<R: Abort>(rt: &R, bytes: &[u8], wanted: &str) {
     let text = str::from_utf8(bytes).expect(rt, "a text");
     assert_eq!(rt; text, wanted);
+}
+
+/// These replies were written one behind the other, and nothing else.
+pub fn expect_texts<R: Abort>(rt: &R, alloc: Global, bytes: &[u8], replies: &[&str]) {
+    let mut text = String::new(alloc);
+    for reply in replies {
+        text.push_str(reply).expect(rt, "memory");
+    }
+    expect_text(rt, bytes, text.as_str());
 }
