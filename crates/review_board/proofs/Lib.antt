@@ -1,0 +1,5 @@
+mod ByIds
+mod Steps
+mod Places
+mod Histories
+mod Owners

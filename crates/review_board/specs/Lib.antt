@@ -1,0 +1,6 @@
+pub mod Reviews
+pub mod Step
+pub mod History
+pub mod Laws
+pub mod Asked
+pub mod Begins
