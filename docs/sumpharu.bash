@@ -6,8 +6,8 @@ _sumpharu() {
         [apply]='--goals --skip-hard-goal-check --excluded-topics'
         [check]='--goals --skip-hard-goal-check --excluded-topics'
         [gen]='--brokers --partitions --goals --skip-hard-goal-check --file'
-        [session]='--movers --planners'
-        [serve]='--listen --links --movers --planners'
+        [session]='--movers --planners --review'
+        [serve]='--listen --links --movers --planners --review'
     )
     if [ "$COMP_CWORD" -eq 1 ]; then
         COMPREPLY=($(compgen -W "plan apply check gen session serve help --help --version" -- "$word"))

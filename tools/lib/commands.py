@@ -106,6 +106,7 @@ OPTIONS = {
             "service ends once all have ended",
             "1",
         ),
+        Option("--review", "", "keeps what would start something on a review board until it is approved there", "it starts at once"),
     )
 }
 
@@ -140,7 +141,7 @@ COMMANDS = (
     Command(
         "session",
         ("FILE",),
-        ("--movers", "--planners"),
+        ("--movers", "--planners", "--review"),
         "reads HTTP requests from the input and writes their replies to the output, over an in-process cluster that movers and planners "
         "may share; at the input's end, or behind a request that closes, it carries out what is left",
         writes_as_it_goes=True,
@@ -148,7 +149,7 @@ COMMANDS = (
     Command(
         "serve",
         ("FILE",),
-        ("--listen", "--links", "--movers", "--planners"),
+        ("--listen", "--links", "--movers", "--planners", "--review"),
         "answers the HTTP requests of links that come in at an address, over an in-process cluster that links, movers and planners "
         "share; once as many links as asked were accepted and have ended, it carries out what is left, and ends. It neither reads the "
         "input nor writes the output",

@@ -2,7 +2,7 @@
 
 'rt ci' tries what stands in crates/CRATE/must-fail/, so they are put there for a run, and taken away behind it. wrong-bodies/tried.txt
 begins with the kit's identity, and has a line a crate: its name, and the sum of its sources and wrong bodies as they were when each of
-these was refused. A crate without the line of its present sum is stale.
+these was refused. A crate without the line of its present sum is stale, and each crate is where the kit's logic is another one.
 """
 import contextlib
 import fcntl
@@ -119,13 +119,18 @@ def fault_of(folder, text):
 # What was tried
 
 
+def logic_of(kit):
+    """What a verdict on a wrong body depends on. Kits of the same logic differ in what else they can do."""
+    return kit.rpartition(" logic ")[2]
+
+
 def lines_of(root, kit):
-    """The lines of tried.txt, where this kit wrote them."""
+    """The lines of tried.txt, where a kit of this one's logic wrote them."""
     try:
         first, *lines = (root / "wrong-bodies" / TRIED).read_text().splitlines()
     except (FileNotFoundError, ValueError):
         return []
-    return lines if first == kit else []
+    return lines if logic_of(first) == logic_of(kit) else []
 
 
 def stale(root, kit):

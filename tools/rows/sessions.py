@@ -37,6 +37,11 @@ def list_told(members, adding="[]"):
     return told(f'{{"deadBrokers":[],"partitions":[{{"adding":{adding},"partition":0,"removing":[],"replicas":{members},"topic":"t"}}],"version":1}}')
 
 
+def head_alone(replied):
+    """What is written of a reply to HEAD: up to and with the empty line, which the body would follow."""
+    return replied[: replied.index("\r\n\r\n") + 4]
+
+
 def caps_told(broker, cluster, leader):
     return told(f'{{"broker":{broker},"cluster":{cluster},"leader":{leader},"version":1}}')
 
@@ -314,6 +319,16 @@ REQUESTS_REFUSED = [
     cut_behind("GET /" + "a" * 16379, refused("431 Request Header Fields Too Large", "head too long")),
 ]
 
+# HEAD is taken nowhere, and its reply has no body, so that the next reply is found.
+HEADS = [
+    read(
+        asked("HEAD /kafkacruisecontrol/state") + asked(CLUSTER_STATE) + asked("HEAD /") + asked(CLUSTER_STATE),
+        head_alone(refused("405 Method Not Allowed", "method not allowed")) + list_told("[0]")
+        + head_alone(refused("404 Not Found", "not found")) + list_told("[0]"),
+    ),
+    read(asked("head /kafkacruisecontrol/state"), refused("405 Method Not Allowed", "method not allowed")),
+]
+
 # Those that are just within the limits.
 LIMITS_KEPT = [
     read(head_of(64), refused("404 Not Found", "not found")),
@@ -344,5 +359,6 @@ SESSIONS = [
     GOAL_FAILED,
     CAPS,
     *REQUESTS_REFUSED,
+    *HEADS,
     *LIMITS_KEPT,
 ]

@@ -3,15 +3,23 @@ import pathlib
 import re
 import subprocess
 import sys
+import tempfile
 import unittest
 
 ROOT = pathlib.Path(__file__).resolve().parents[2]
 sys.path.insert(0, str(ROOT / "tools/lib"))
+import made_pages
+from commands import ENDS, NAMES
 from goals import GOALS
 
-# Words that stand in texts of the program alone, and so in code.
-FORBIDDEN = ("can't be had", "a front of", "want of memory", "exactly where", "that can be had")
-PAGES = [ROOT / "README.md", *ROOT.glob("docs/*.md")]
+# Words that stand in texts of the program alone, and so in code; and words that stand for plainer ones.
+FORBIDDEN = (
+    *("can't be had", "a front of", "want of memory", "exactly where", "that can be had", "parted by", "beside"),
+    *("behind it", "behind that", "behind the ", "behind them", "behind its", "is told", "are told", "contract tells", "clause tells"),
+)
+PAGES = [ROOT / "README.md", *sorted(ROOT.glob("docs/*.md"))]
+OWN_PAGES = [page for page in PAGES if page.name not in made_pages.WHOLE]
+MADE = re.compile(r"(<!-- made by tools/[\w-]+: \w+ -->\n).*?(<!-- made so far -->)", re.S)
 HEADINGS = [
     "What it needs",
     "Run it",
@@ -23,6 +31,78 @@ HEADINGS = [
     "Test it",
 ]
 PROGRAM = ROOT / "crates/sumpharu/out/sumpharu"
+# The pages whose names are looked up; what they name of the outside; and words with which an example of more words begins.
+CHECKED = ("ARCHITECTURE.md", "PROVED.md", "CONTRIBUTING.md", "DECISIONS.md")
+OUTSIDE = {"None", "percent_encoding", "rt", "std", "map_err", "main", "?", "u64", "ErrorKind::Interrupted", "thread::join"}
+STARTERS = {"rt", "python3", "grep", "let", "POST"}
+NUMBERS = (
+    *("zero", "one", "two", "three", "four", "five", "six", "seven", "eight", "nine", "ten", "eleven", "twelve", "thirteen", "fourteen"),
+    *("fifteen", "sixteen", "seventeen", "eighteen", "nineteen", "twenty"),
+)
+
+
+def uses():
+    """The libraries of each crate, by its line of crates.txt."""
+    heads = [line.partition("#")[0].partition(":") for line in (ROOT / "crates.txt").read_text().splitlines()]
+    return {head.split()[0]: libraries.split() for head, colon, libraries in heads if colon}
+
+
+def own_text(page):
+    """A page without what a tool makes in it."""
+    return MADE.sub(r"\1\2", page.read_text())
+
+
+def sources(crate="*"):
+    """The texts of a crate's sources, without their comments."""
+    return [re.sub(r"//.*", "", path.read_text()) for path in sorted(ROOT.glob(f"crates/{crate}/src/*.rt"))]
+
+
+def items(texts):
+    """The names that sources define: functions, types with their variants, constants and modules."""
+    found = set()
+    for text in texts:
+        found |= set(re.findall(r"\b(?:fn|struct|enum|trait|type|const|mod|ghost) (\w+)", text))
+        for body in re.findall(r"^(?:pub )?enum \w+[^{]*\{\n(.*?)^\}", text, re.M | re.S):
+            found |= set(re.findall(r"^    (\w+)", body, re.M))
+    return found
+
+
+def methods(texts):
+    """The calls of each type and trait, as `Type::call`."""
+    found = set()
+    for text in texts:
+        for head, body in re.findall(r"^(?:pub )?((?:impl|trait)\b[^{;]*?)\{\n(.*?)^\}", text, re.M | re.S):
+            calls = re.findall(r"^    (?:pub )?fn (\w+)", body, re.M)
+            found |= {f"{name}::{call}" for name in re.findall(r"\b[A-Z]\w+", head) for call in calls}
+    return found
+
+
+def definitions():
+    """The names that definitions have, with the fields of records."""
+    texts = [path.read_text() for path in ROOT.glob("crates/*/specs/*.antt")]
+    return {name for text in texts for name in re.findall(r"^ *(?:[a-z]+ )*pub (?:record |data )?(\w+)", text, re.M)}
+
+
+def known_names():
+    """Crates and libraries, what sources and definitions define, the tools' functions, and the program's words and texts."""
+    texts = sources()
+    tools = {name for path in ROOT.glob("tools/lib/*.py") for name in re.findall(r"^(?:def |class |(?=[A-Z_]+ = ))(\w+)", path.read_text(), re.M)}
+    refused = {text for row in made_pages.refusals().values() for text in row}
+    words = set(NAMES) | {name for end in ENDS for name in (end.output, end.line)} | refused
+    libraries = {name for names in uses().values() for name in names}
+    return set(uses()) | libraries | items(texts) | methods(texts) | definitions() | tools | words | OUTSIDE
+
+
+def is_path(name):
+    """Whether a path is one of the repository: from its top, from docs/, or from a crate's folder; words in capitals stand for any name."""
+    pattern = re.sub(r"\b[A-Z]+\b(?![.\w])", "*", name).rstrip("/")
+    folders = ("", "docs/", "crates/*/", "crates/*/src/", "crates/*/specs/", "crates/*/proofs/")
+    return any(next(ROOT.glob(folder + pattern), None) for folder in folders)
+
+
+def code_of(page):
+    """What stands as code in the text of a page."""
+    return re.findall(r"`([^`\n]+)`", re.sub(r"^    .*$", "", own_text(page), flags=re.M))
 
 
 def anchors(text):
@@ -43,11 +123,22 @@ class Documents(unittest.TestCase):
 
     def test_words(self):
         """The documents say in plain words what the program's own texts, which stand as code, say in theirs."""
+        for page in OWN_PAGES:
+            text = re.sub(r"^    .*$", "", own_text(page), flags=re.M)
+            text = " ".join(re.sub(r"`[^`\n]*`", "", text).lower().split())
+            found = [words for words in FORBIDDEN if words in text]
+            self.assertEqual(found, [], page.name)
+
+    def test_code_stays_on_its_line(self):
+        """A text that stands as code isn't cut by the end of a line, where the other tests wouldn't find it."""
         for page in PAGES:
-            text = re.sub(r"^    .*$", "", page.read_text(), flags=re.M)
-            text = re.sub(r"`[^`\n]*`", "", text).lower()
-            for words in FORBIDDEN:
-                self.assertNotIn(words, text, page.name)
+            lines = re.sub(r"^    .*$", "", page.read_text(), flags=re.M).splitlines()
+            self.assertEqual([line for line in lines if line.count("`") % 2], [], page.name)
+
+    def test_length(self):
+        """The documents, without what tools make of them, are short enough to be read."""
+        counts = {page.name: len(own_text(page).split()) for page in OWN_PAGES}
+        self.assertLessEqual(sum(counts.values()), 18000, counts)
 
     def test_readme(self):
         text = (ROOT / "README.md").read_text()
@@ -55,46 +146,126 @@ class Documents(unittest.TestCase):
         self.assertEqual(re.findall(r"^## (.*)$", text, re.M), HEADINGS)
         self.assertEqual(len(re.findall(r"^\d+\. ", text, re.M)), 10)
 
+    def test_names(self):
+        """What stands as code in these pages exists: crates, paths, functions, types, definitions, commands and options."""
+        known, unknown = known_names(), []
+        files = [ROOT / "sumpharu", *ROOT.glob("tools/*"), *ROOT.glob("tools/lib/*.py"), *ROOT.glob("tools/tests/*.py")]
+        tools = "".join(path.read_text() for path in files if path.is_file())
+        kit = set((ROOT / "wrong-bodies/tried.txt").read_text().splitlines()[0].split())
+        for name in CHECKED:
+            for code in code_of(ROOT / "docs" / name):
+                first = code.split()[0]
+                if " " in code:
+                    is_good = code in known or first in STARTERS | set(NAMES) or "/" in first and is_path(first)
+                elif code.startswith("--") or "=" in code:
+                    is_good = re.search(rf"{re.escape(code.partition('=')[0])}\b", tools)
+                else:
+                    is_good = code in known | kit or ("/" in code or "." in code) and is_path(code)
+                unknown += [] if is_good else [f"{name}: {code}"]
+        self.assertEqual(unknown, [])
+
+    def test_how_tos(self):
+        """A how-to names each file, but tests, that has what its example added."""
+        page = (ROOT / "docs/CONTRIBUTING.md").read_text()
+        examples = {
+            "How to add a goal": r"LeaderBytesIn|leader_in_goal",
+            "How to add a setting of the cluster file": r"min\.valid\.partition\.ratio|min\.valid\.windows",
+            "How to add an endpoint with a new event of the core": r"\b(?:[eE]vent(?:\.|::)Look|[cC]all(?:\.|::)Detect|[eE]ndpoint(?:\.|::)Detect)\b",
+        }
+        files = [path for folder in ("src", "specs", "proofs") for path in ROOT.glob(f"crates/*/{folder}/**/*") if path.suffix in (".rt", ".antt")]
+        files = [path for path in files if "_tests/" not in str(path)] + list(ROOT.glob("tools/lib/*.py"))
+        for title, pattern in examples.items():
+            part = page.partition(f"\n## {title}\n")[2].partition("\n## ")[0]
+            touched = [path.relative_to(ROOT) for path in files if re.search(pattern, path.read_text())]
+            self.assertGreater(len(touched), 5, title)
+            named = [path for path in touched if f"`{path}`" in part or f"`{path.name}`" in part and f"/{path.parts[1]}/" in part]
+            self.assertEqual([str(path) for path in touched if path not in named], [], title)
+
+    def test_calls(self):
+        """Each call of PROVED's table is one of its crate."""
+        rows = re.findall(r"^\| `(\w+)` \| (`.+?`) \| .+ \|$", (ROOT / "docs/PROVED.md").read_text(), re.M)
+        self.assertGreater(len(rows), 50)
+        for crate, calls in rows:
+            found = items(sources(crate)) | methods(sources(crate))
+            for call in re.findall(r"`([^`]+)`", calls):
+                self.assertIn(call, found, f"{crate}: {call}")
+
     def test_crates(self):
-        """Each crate has its line and its row in the list of what is proved, where those that the program isn't made of stand apart."""
-        below = {}
-        for line in (ROOT / "crates.txt").read_text().splitlines():
-            head, colon, names = line.partition("#")[0].partition(":")
-            if colon:
-                below[head.split()[0]] = names.split()
-        used, left = set(), ["sumpharu"]
+        """PROVED names each crate, those that the program isn't made of in a sentence of their own, and each library that is trusted."""
+        text = (ROOT / "docs/PROVED.md").read_text()
+        below, used, left = uses(), set(), ["sumpharu"]
         while left:
             name = left.pop()
             left += [it for it in below.get(name, ()) if it in below and it not in used]
             used.add(name)
-        text = (ROOT / "docs/PROVED.md").read_text()
-        start = text.index("## What the program doesn't use yet")
-        apart = text[start : text.index("\n## ", start + 1)]
-        for name in below:
-            self.assertIn(name, text)
-        self.assertEqual(set(re.findall(r"^\| (\w+) \| ", apart, re.M)) - {"crate"}, set(below) - used)
-        listed = re.findall(r"^- `(\w+)`: .+$", (ROOT / "docs/CRATES.md").read_text(), re.M)
-        self.assertEqual(listed, list(below), "docs/CRATES.md has one line a crate, in the order of crates.txt")
+        tests = text.partition("\nThe program doesn't use these crates")[2].partition("\n\n")[0]
+        self.assertEqual(set(re.findall(r"`(\w+)`", tests)), set(below) - used)
+        self.assertEqual([name for name in below if f"`{name}`" not in text], [])
+        trusted = text.partition("\n## What is trusted\n")[2].partition("\n## ")[0]
+        libraries = {lib for libs in below.values() for lib in libs} - set(below)
+        self.assertEqual([lib for lib in sorted(libraries) if f"`{lib}`" not in trusted], [])
 
-    def test_definitions(self):
-        """Each row of a table of definitions is one definition, and the file that it names has it."""
-        text = (ROOT / "docs/DEFINITIONS.md").read_text()
-        crates, is_table, found = [], False, set()
-        for line in text.splitlines():
-            crates = [] if line.startswith("#") else crates + re.findall(r"crates/(\w+)/specs/", line)
-            is_table = line.startswith("| name | file |") or is_table and line.startswith("|")
-            if not is_table or not line.startswith("| `"):
-                continue
-            row = re.fullmatch(r"\| `([^`]+)` \| (?:`(\w+)/specs/(\w+)`|(\w+)) \| .+ \|", line)
-            self.assertTrue(row, line)
-            places = [(row[2], row[3])] if row[2] else [(crate, row[4]) for crate in crates]
-            files = [ROOT / f"crates/{crate}/specs/{name}.antt" for crate, name in places]
-            specs = "".join(path.read_text() for path in files if path.exists())
-            known = re.search(rf"^(?:\w+ )?pub (?:record |data )?{re.escape(row[1])}[ :({{\n]", specs, re.M)
-            self.assertTrue(known, line)
-            self.assertNotIn((row[1], row[2] or crates[0], row[3] or row[4]), found, line)
-            found.add((row[1], row[2] or crates[0], row[3] or row[4]))
-        self.assertGreater(len(found), 600)
+    def test_drawing(self):
+        """Each crate stands in the drawing of the layers once, and uses crates of its own row and of rows below it."""
+        text = (ROOT / "docs/ARCHITECTURE.md").read_text().partition("\n## The layers\n")[2].partition("\nA crate has")[0]
+        rows, below = {}, uses()
+        for line in re.findall(r"^    (.*)$", text, re.M):
+            label, names = line[:13].strip(), line[13:].split()
+            row = len(set(rows.values())) if label else max(rows.values(), default=0)
+            for name in set(names) - {"|"}:
+                self.assertIn(name, below)
+                self.assertNotIn(name, rows)
+                rows[name] = row
+        self.assertEqual(set(rows), set(below))
+        tests = max(rows.values())
+        for name, row in rows.items():
+            used = [it for it in below[name] if it in below]
+            wrong = [it for it in used if row != tests and not row <= rows[it] < tests]
+            self.assertEqual(wrong, [], f"{name} uses what stands above it, or a test")
+
+    def test_numbers(self):
+        """A number of goals or of crates is that of the sources; of wrong bodies and rows no number is given."""
+        counts = {"goals": len(GOALS), "crates": len(uses())}
+        for page in OWN_PAGES:
+            text = " ".join(page.read_text().split()).lower()
+            for number, what in re.findall(r"\b(\w+) (goals|crates|wrong bodies|edits|rows|command lines|replies)\b", text):
+                if number.isdecimal() or number in NUMBERS:
+                    value = int(number) if number.isdecimal() else NUMBERS.index(number)
+                    self.assertEqual(value, counts.get(what), f"{page.name}: {number} {what}")
+
+    def test_made_pages(self):
+        """The pages that tools/make-pages makes are what it would make now."""
+        self.assertEqual(made_pages.stale(), [], "run tools/make-pages")
+
+    def test_stale_pages_are_found(self):
+        with tempfile.TemporaryDirectory() as room:
+            self.assertEqual(made_pages.stale(pathlib.Path(room)), list(made_pages.PAGES))
+
+    def test_definitions_of_a_file(self):
+        """A comment is the meaning of what stands right below it, and of the names without one that follow."""
+        lines = "-- A head\n-- in two lines.\nuse a.b.{c}\npub record Lone : Type where\n  pub field : N\n\n-- one\n-- two\nabbrev pub x : N\nx = 1\n\n"
+        lines += "-- ---- a part\n\nunfoldable pub y {A : N} : N\n-- three\npub data Z : Type where\n-- hidden\nabbrev z : N\n"
+        lines = lines.splitlines()
+        self.assertEqual(made_pages.head_of(lines), "A head in two lines.")
+        self.assertEqual(made_pages.definitions(lines), [(["x", "y"], "one two"), (["Z"], "three")])
+
+    def test_lines_of_crates(self):
+        source = "//! What it is, as [`A`] says: all. More.\n#![tactic(auto)]\n\nmod a;\n\npub use a::{\n    A, b as c,\n};\npub use other::D;\npub fn e()\n"
+        self.assertEqual(made_pages.first_sentence(source), "What it is, as `A` says: all")
+        self.assertEqual(made_pages.given(source), ["A", "c", "e"])
+
+    def test_made_pages_have_all(self):
+        """Each crate has its line, in the order of crates.txt, and each public definition with a comment its row."""
+        lines = re.findall(r"^- `(\w+)`: .+\.$", (ROOT / "docs/CRATES.md").read_text(), re.M)
+        self.assertEqual(lines, list(uses()))
+        page = (ROOT / "docs/DEFINITIONS.md").read_text()
+        rows = re.findall(r"^\| (`.+`) \| .+ \|$", page, re.M)
+        named = {name for row in rows for name in re.findall(r"`([^`]+)`", row)}
+        files = [path.read_text() for path in ROOT.glob("crates/*/specs/*.antt")]
+        commented = r"^--(?! --).*\n(?:[a-z]+ )?pub (?:record |data )?([^\s:({]+)"
+        wanted = {name for text in files for name in re.findall(commented, text, re.M)}
+        self.assertGreater(len(wanted), 1000)
+        self.assertEqual(wanted - named, set())
 
     def test_goals(self):
         rows = re.findall(r"^\| (\w+Goal) \| (.*)$", (ROOT / "docs/GOALS.md").read_text(), re.M)
@@ -120,6 +291,28 @@ class Documents(unittest.TestCase):
         self.assertEqual(set(re.findall(r"^\| `(\w+)", refusals, re.M)), known)
         kinds = set(re.findall(r'^fault_name .*codes "(\w+)"', (ROOT / "crates/plan_check/specs/Names.antt").read_text(), re.M))
         self.assertEqual(set(re.findall(r"^\| `([A-Z]+_?[A-Z]+_?[A-Z]*)` \|", page, re.M)) - {"NOT_A_TRACE"}, kinds)
+
+    def test_formats_name_the_requests(self):
+        """The page has each path and parameter of a request, and its table of requests no other parameter."""
+        texts = {name: (ROOT / f"crates/rest_parse/specs/{name}.antt").read_text() for name in ("Routes", "Reviews", "Parameters", "ReviewPairs")}
+        page = (ROOT / "docs/FORMATS.md").read_text().partition("\n## Requests of the service\n")[2].partition("\n## ")[0]
+        named = set(re.findall(r"`([^`\n]+)`", page))
+        paths = set(re.findall(r'codes "(/[\w/]+)"', texts["Routes"] + texts["Reviews"]))
+        ends = {name.split()[-1].rpartition("/")[2] for name in named}
+        self.assertEqual([path for path in sorted(paths) if path.rpartition("/")[2] not in ends], [])
+        parameters = set(re.findall(r'codes "(\w+)"', texts["Parameters"] + texts["ReviewPairs"])) - {"true", "false"}
+        self.assertEqual(sorted(parameters - named), [])
+        rows = re.findall(r"^\| `(?:GET|POST) .*? \| (.*) \|$", page, re.M)
+        self.assertEqual({name for row in rows for name in re.findall(r"`(\w+)`", row)} - parameters, set())
+
+    def test_formats_name_the_replies(self):
+        """The page has each member, state and status of a reply."""
+        page = (ROOT / "docs/FORMATS.md").read_text().partition("\n## Replies of the service\n")[2]
+        bodies, texts = ((ROOT / f"crates/rest_replies/specs/{name}.antt").read_text() for name in ("Bodies", "Texts"))
+        states = re.findall(r'^(?:task_status|executor_state|review_state|status)_text .*codes "([^"]+)"', texts, re.M)
+        told = {*re.findall(r'codes "([^"]+)"', bodies), *states}
+        self.assertGreater(len(told), 60)
+        self.assertEqual([text for text in sorted(told) if not re.search(rf"\b{re.escape(text)}\b", page)], [])
 
     @unittest.skipUnless(PROGRAM.exists(), "the program isn't built")
     def test_examples(self):

@@ -13,7 +13,7 @@ import unittest
 
 ROOT = pathlib.Path(__file__).resolve().parents[2]
 sys.path.insert(0, str(ROOT / "tools"))
-from rows import files, goals, plans, sessions, summaries, words as refused
+from rows import files, goals, plans, reviews, sessions, summaries, words as refused
 
 PROGRAM = ROOT / "crates/sumpharu/out/sumpharu"
 
@@ -142,12 +142,22 @@ class Rows(unittest.TestCase):
         self.assertEqual(lines[0], "1 of 2 partitions change: 0 replicas move (0 MB), 1 leader changes")
         self.assertIn(["DemotionGoal", "soft", "2", "1", "better"], [line.split() for line in lines])
 
-    def test_sessions(self):
-        for cluster, requests, status, replies, line in sessions.SESSIONS:
+    def expect_sessions(self, words, rows):
+        for cluster, requests, status, replies, line in rows:
             with self.subTest(requests=requests[:200]):
                 self.write(cluster)
-                ran = self.run_program("session cluster --movers 0", requests)
-                self.assertEqual((ran.returncode, ran.stdout, ran.stderr), (status, replies.encode(), line.encode()))
+                ran = self.run_program(words, requests)
+                self.assertEqual((ran.returncode, ran.stdout.decode(), ran.stderr.decode()), (status, replies, line))
+
+    def test_sessions(self):
+        self.expect_sessions("session cluster --movers 0", [*sessions.SESSIONS, reviews.WITHOUT])
+
+    def test_sessions_whose_requests_are_reviewed(self):
+        self.expect_sessions("session cluster --review", reviews.SESSIONS)
+
+    def test_reviewed_sessions_of_a_shared_book(self):
+        """The same replies where the book and the board are shared with a mover, as long as it has no work."""
+        self.expect_sessions("session cluster --review --planners 1", [reviews.USED_UP, reviews.REFUSED])
 
     def test_sessions_that_come_byte_by_byte(self):
         for cluster, requests, *answered in sessions.SESSIONS:

@@ -29,6 +29,11 @@ CLUSTER = "/kafkacruisecontrol/kafka_cluster_state"
 TASKS = "/kafkacruisecontrol/user_tasks"
 REMOVE = "/kafkacruisecontrol/remove_broker?brokerid=0&dryrun=false"
 STOP = "/kafkacruisecontrol/stop_proposal_execution?force_stop=true"
+ADMIN = "/kafkacruisecontrol/admin"
+CAP = f"{ADMIN}?concurrent_leader_movements=7"
+TAKE = "/kafkacruisecontrol/remove_broker?review_id=1"
+REVIEW = "/kafkacruisecontrol/review"
+BOARD = "/kafkacruisecontrol/review_board"
 FIRST_TASK = sessions.FIRST_TASK
 
 
@@ -53,6 +58,10 @@ IDLE = (
     '{"ExecutorState":{"aborted":0,"aborting":0,"completed":0,"dead":0,"inProgress":0,"pending":0,"state":"NO_TASK_IN_PROGRESS"},'
     '"MonitorState":{"all":1,"valid":0},"version":1}'
 )
+
+
+def removal(number, status):
+    return {"endpoint": "remove_broker", "reviewId": number, "status": status}
 
 
 def cluster(partitions, chunks):
@@ -174,6 +183,48 @@ class Serve(unittest.TestCase):
         self.assertEqual(link.rest(), reply_bytes("400 Bad Request", '{"errorMessage":"bad length","version":1}'))
         self.assert_ends()
 
+    def test_a_link_that_has_ended_is_closed_while_others_are_open(self):
+        """The service ends each link itself: the client reads the end although it sends no end, and another link is served all the while."""
+        idle = reply_bytes("200 OK", IDLE)
+        rows = [
+            (f"GET {STATE} HTTP/1.1\r\nConnection: close\r\n\r\n", idle),
+            (f"GET {STATE} HTTP/1.0\r\n\r\n", idle),
+            ("GET / HTTP/1.1\r\nContent-Length: x\r\n\r\n", reply_bytes("400 Bad Request", '{"errorMessage":"bad length","version":1}')),
+            (sessions.head_of(65), reply_bytes("400 Bad Request", '{"errorMessage":"bad head","version":1}')),
+            ("GET / HTTP/1.1\r\nContent-Length: 1048577\r\n\r\n", reply_bytes("413 Content Too Large", '{"errorMessage":"body too long","version":1}')),
+            ("GET /" + "a" * 16379, reply_bytes("431 Request Header Fields Too Large", '{"errorMessage":"head too long","version":1}')),
+            (
+                "GET / HTTP/1.1\r\nTransfer-Encoding: chunked\r\n\r\n",
+                reply_bytes("501 Not Implemented", '{"errorMessage":"transfer encoding is not taken","version":1}'),
+            ),
+        ]
+        self.start("--links", str(len(rows) + 1))
+        other = self.link()
+        for request, replied in rows:
+            with self.subTest(request=request[:60]):
+                link = self.link()
+                # What comes after the last request isn't read, and its reply isn't lost for that.
+                link.send(request.encode() + b"-" * 5000)
+                self.assertEqual(link.rest(), replied)
+                link.close()
+                self.assertEqual(other.ask("GET", STATE).raw, idle)
+        self.assertIsNone(self.process.poll())
+        other.close()
+        self.assert_ends()
+
+    def test_a_client_that_goes_on_sending_is_let_go(self):
+        """What comes behind the last request is thrown away up to a bound, and then the connection is reset."""
+        self.start("--links", "2")
+        other, link = self.links(2)
+        link.send(f"GET {STATE} HTTP/1.1\r\nConnection: close\r\n\r\n".encode())
+        self.assertEqual(link.rest(), reply_bytes("200 OK", IDLE))
+        with self.assertRaises((BrokenPipeError, ConnectionResetError)):
+            for _ in range(1000):
+                link.send(b"-" * 65536)
+        self.assertEqual(other.ask("GET", STATE).code, 200)
+        other.close()
+        self.assert_ends()
+
     # Several links
 
     def test_links_are_served_at_once(self):
@@ -232,6 +283,45 @@ class Serve(unittest.TestCase):
         self.assert_lists(second, {("t", 0): [[1]]})
         first.close()
         second.close()
+        self.assert_ends()
+
+    # Reviews
+
+    def file_removal(self, link, number):
+        filed = {"reviewId": number, "status": "PENDING_REVIEW", "version": 1}
+        reply = link.ask("POST", REMOVE)
+        self.assertEqual((reply.code, reply.body), (202, filed))
+
+    def test_one_files_another_approves_and_a_third_takes(self):
+        self.start("--links", "3", "--review", "--movers", "1", "--planners", "1")
+        first, second, third = self.links(3)
+        self.file_removal(first, 1)
+        self.assertEqual(third.ask("POST", TAKE).body["errorMessage"], "review 1 is PENDING_REVIEW")
+        self.assertEqual(second.ask("POST", f"{REVIEW}?approve=1").body["requests"], [removal(1, "APPROVED")])
+        self.assertEqual(third.ask("POST", TAKE).raw, ACCEPTED)
+        self.assertEqual(first.ask("GET", BOARD).body["requests"], [removal(1, "SUBMITTED")])
+        self.until(lambda: serving.status_of(first.ask("GET", TASKS).body, FIRST_TASK), lambda it: it == "Completed")
+        self.assert_lists(second, {("t", 0): [[1]]})
+        for link in (first, second, third):
+            link.close()
+        self.assert_ends()
+
+    def test_what_two_take_at_once_is_given_once(self):
+        rounds = 50
+        self.start("--links", "2", "--review")
+        links = self.links(2)
+        for number in range(1, rounds + 1):
+            self.assertEqual(links[0].ask("POST", CAP).body["reviewId"], number)
+            self.assertEqual(links[1].ask("POST", f"{REVIEW}?approve={number}").code, 200)
+            for link in links:
+                link.send(request_bytes(f"POST {ADMIN}?review_id={number}"))
+            replies = sorted((link.reply() for link in links), key=lambda it: it.code)
+            self.assertEqual([it.code for it in replies], [200, 409])
+            self.assertEqual(replies[1].body["errorMessage"], f"review {number} is SUBMITTED")
+        board = links[0].ask("GET", BOARD).body["requests"]
+        self.assertEqual([(it["reviewId"], it["status"]) for it in board], [(at + 1, "SUBMITTED") for at in range(rounds)])
+        for link in links:
+            link.close()
         self.assert_ends()
 
     def test_as_many_links_as_may_be_asked(self):

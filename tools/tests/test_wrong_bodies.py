@@ -180,6 +180,13 @@ class WrongBodies(unittest.TestCase):
         (self.tree / "wrong-bodies/tried.txt").unlink()
         self.assertEqual(self.listed(), ["base", "top"])
 
+    def test_a_kit_of_the_same_logic_keeps_the_lines(self):
+        (self.control / "version").write_text("kit 1 logic a\n")
+        self.tool("try")
+        for version, stale in ("kit 2 logic a", []), ("kit 1 logic b", ["base", "top"]), ("kit 1 logic a", []):
+            (self.control / "version").write_text(f"{version}\n")
+            self.assertEqual(self.listed(), stale, version)
+
     def test_no_line_without_a_refusal_in_this_run(self):
         rows = [(body_of("passes"), 1, "not refused in this run: b.edit"), (body_of("unread"), 1, "b.edit"), (body_of("silent"), 1, "b.edit")]
         for text, status, why in rows:

@@ -6,7 +6,8 @@ use Rattle.cluster_json.specs.Faults.{Fault}
 use Rattle.cluster_json.specs.File.{Meaning}
 use Rattle.control_core.specs.Books.{BookView}
 use Rattle.live_service.specs.Asked.{ServingAsked}
-use Rattle.live_service.specs.Fronts.{HasAnswered}
+use Rattle.live_service.specs.Boards.{BoardCallerView}
+use Rattle.live_service.specs.Fronts.{HasAnswered, IsUnheard}
 use Rattle.live_service.specs.Views.{FrontTold, TeamView, told_of}
 use Rattle.live_service.specs.Workers.{Pass}
 use Rattle.live_service.specs.declared.front.FrontEnd.{FrontEnd}
@@ -68,20 +69,20 @@ module _ {A : Type 0} (gate : Gate A) (words : List (List ℕ)) (files : Shelf) 
   unread book end.ListenerFault none h = absurd h
 
   -- what a front answered, by how it ended
-  module _ (asked : LiveAsked) (means : live_command words ≡ Some asked) (file : Meaning) (f g : FrontTold) (k j : List Copies) (v w : Pass) where
+  module _ (asked : LiveAsked) (means : live_command words ≡ Some asked) (file : Meaning) (x y : BoardCallerView) (f g : FrontTold) (k j : List Copies) (v w : Pass) where
     abbrev Answered : Option ServingAsked → FrontEnd → Type 0
-    Answered s e = HasAnswered file s f g e k j v w
+    Answered s e = HasAnswered file s x y f g e k j v w
 
     stops : (raws : List RawRequest) (e : LinkEnd) → asked.crew.serving ≡ None → (e ≡ link.Cut) ⊎ (e ≡ link.Unframed) → (why : Stop) → end_of why ≡ e → IfSome f.console.left (λ s. Requests 0 s raws (stopped why)) → IsCutSession words f.console.left
     stops raws e is how why same told = record { asked = asked; means = means; of_console = is; raws = raws; why = why; cut = subst (λ (x : LinkEnd). (x ≡ link.Cut) ⊎ (x ≡ link.Unframed)) (sym same) how; stops = λ stream at. if_told f.console.left (λ s. Requests 0 s raws (stopped why)) stream at told }
 
     cut : (s : Option ServingAsked) → asked.crew.serving ≡ s → Answered s (front.Console link.Cut) → IsCutSession words f.console.left
     cut (Some x) is h = absurd h
-    cut None is h = let e = h.0.answered.is.ended in stops _ link.Cut is (inl refl) e.0 e.1 e.2.1.requests
+    cut None is h = let e = h.0.answered.made.is.ended in stops _ link.Cut is (inl refl) e.0 e.1 e.2.1.requests
 
     unframed : (s : Option ServingAsked) → asked.crew.serving ≡ s → Answered s (front.Console link.Unframed) → IsCutSession words f.console.left
     unframed (Some x) is h = absurd h
-    unframed None is h = let e = h.0.answered.is.ended in stops _ link.Unframed is (inr refl) e.0 e.1 e.2.1.requests
+    unframed None is h = let e = h.0.answered.made.is.ended in stops _ link.Unframed is (inr refl) e.0 e.1 e.2.1.requests
 
     unread_more : (s : Option ServingAsked) → Answered s (front.Console link.ReadFault) → HasRisen f.console.reads g.console.reads
     unread_more (Some x) h = absurd h
@@ -92,7 +93,10 @@ module _ {A : Type 0} (gate : Gate A) (words : List (List ℕ)) (files : Shelf) 
     unwritten None h = h.0.cause.write_fault refl
 
     unlistened : (s : Option ServingAsked) → Answered s front.ListenerFault → HasRisen f.net.faults g.net.faults
-    unlistened (Some x) h = h.1.risen
+    unlistened (Some x) h = has_risen h.1.why where
+      has_risen : IsUnheard x.address f.net g.net g.served → HasRisen f.net.faults g.net.faults
+      has_risen (inl i) = i.1
+      has_risen (inr i) = let h = i.1 in omega (arith, h)
     unlistened None h = absurd h
 
   module _ (asked : LiveAsked) (means : live_command words ≡ Some asked) (m : Meaning) where
@@ -132,13 +136,13 @@ module _ {A : Type 0} (gate : Gate A) (words : List (List ℕ)) (files : Shelf) 
     over : (c : BookView A) (e : FrontEnd) (want : Bool) (d : DrainEnd) → IsLiveOf gate (gate.faults admin) m asked.crew o l c e d → Cause (Some c) (ended_live e want d)
     over c (front.Console link.Ended) want d h = drained c (front.Console link.Ended) d h want
     over c (front.Console link.Closed) want d h = drained c (front.Console link.Closed) d h want
-    over c (front.Console link.Cut) want d h = let r = h.live.shared.run.run in rw h.given_is.console (cut asked means h.b.file (asked_before c (front.Console link.Cut) d h) (asked_behind c (front.Console link.Cut) d h) r.others_old r.others_new r.begun r.did.served asked.crew.serving refl r.did.answered)
-    over c (front.Console link.Unframed) want d h = let r = h.live.shared.run.run in rw h.given_is.console (unframed asked means h.b.file (asked_before c (front.Console link.Unframed) d h) (asked_behind c (front.Console link.Unframed) d h) r.others_old r.others_new r.begun r.did.served asked.crew.serving refl r.did.answered)
-    over c (front.Console link.ReadFault) want d h = let r = h.live.shared.run.run in rw (h.given_is.console, back_console c (front.Console link.ReadFault) d h) (unread_more asked means h.b.file (asked_before c (front.Console link.ReadFault) d h) (asked_behind c (front.Console link.ReadFault) d h) r.others_old r.others_new r.begun r.did.served asked.crew.serving r.did.answered)
-    over c (front.Console link.WriteFault) want d h = let r = h.live.shared.run.run in rw (h.given_is.console, back_console c (front.Console link.WriteFault) d h) (unwritten asked means h.b.file (asked_before c (front.Console link.WriteFault) d h) (asked_behind c (front.Console link.WriteFault) d h) r.others_old r.others_new r.begun r.did.served asked.crew.serving r.did.answered)
+    over c (front.Console link.Cut) want d h = let r = h.live.shared.run.run in rw h.given_is.console (cut asked means h.b.file h.live.board_given h.live.board_back (asked_before c (front.Console link.Cut) d h) (asked_behind c (front.Console link.Cut) d h) r.others_old r.others_new r.begun r.did.served asked.crew.serving refl r.did.answered)
+    over c (front.Console link.Unframed) want d h = let r = h.live.shared.run.run in rw h.given_is.console (unframed asked means h.b.file h.live.board_given h.live.board_back (asked_before c (front.Console link.Unframed) d h) (asked_behind c (front.Console link.Unframed) d h) r.others_old r.others_new r.begun r.did.served asked.crew.serving refl r.did.answered)
+    over c (front.Console link.ReadFault) want d h = let r = h.live.shared.run.run in rw (h.given_is.console, back_console c (front.Console link.ReadFault) d h) (unread_more asked means h.b.file h.live.board_given h.live.board_back (asked_before c (front.Console link.ReadFault) d h) (asked_behind c (front.Console link.ReadFault) d h) r.others_old r.others_new r.begun r.did.served asked.crew.serving r.did.answered)
+    over c (front.Console link.WriteFault) want d h = let r = h.live.shared.run.run in rw (h.given_is.console, back_console c (front.Console link.WriteFault) d h) (unwritten asked means h.b.file h.live.board_given h.live.board_back (asked_before c (front.Console link.WriteFault) d h) (asked_behind c (front.Console link.WriteFault) d h) r.others_old r.others_new r.begun r.did.served asked.crew.serving r.did.answered)
     over c (front.Console link.Memory) want d h = tt
     over c front.Accepted want d h = drained c front.Accepted d h want
-    over c front.ListenerFault want d h = let r = h.live.shared.run.run in rw (h.given_is.net, back_net c front.ListenerFault d h) (unlistened asked means h.b.file (asked_before c front.ListenerFault d h) (asked_behind c front.ListenerFault d h) r.others_old r.others_new r.begun r.did.served asked.crew.serving r.did.answered)
+    over c front.ListenerFault want d h = let r = h.live.shared.run.run in rw (h.given_is.net, back_net c front.ListenerFault d h) (unlistened asked means h.b.file h.live.board_given h.live.board_back (asked_before c front.ListenerFault d h) (asked_behind c front.ListenerFault d h) r.others_old r.others_new r.begun r.did.served asked.crew.serving r.did.answered)
 
     -- none was begun
     unbegun : (way : End) → IsNotBegun gate admin l.admin way → Cause None way

@@ -6,7 +6,8 @@ use Rattle.plan_terms.specs.Digits.{whole_of}
 use Rattle.clap.specs.Words.{Kinds, Row, Text, fault_of, first_of, subcommand_of}
 use Rattle.command_words.specs.Arguments.{the_app}
 use Rattle.command_words.specs.Meaning as words
-use Rattle.cc_program.specs.Lives.{CrewAsked, LiveAsked, live_command, live_of, links_in}
+use Rattle.live_service.specs.Asked.{CrewAsked}
+use Rattle.cc_program.specs.Lives.{LiveAsked, live_command, live_of, links_in}
 
 abbrev AreFew : words.WorkersAsked → Type 0
 AreFew w = (w.movers ≤ 64) × (w.planners ≤ 4)
@@ -50,34 +51,34 @@ module _ (a : words.Asked) where
   mapped f None h e = absurd cc
   mapped f (Some y) h e = let same : f y ≡ a = cc in subst Holds same (h y refl)
 
-  with_workers : (rows : List Row) (file : Text) (x : Option words.WorkersAsked) (o : words.SessionAsked) → ((w : words.WorkersAsked) → x ≡ Some w → AreFew w) → option_map (words.session_with file) x ≡ Some o → AreFew o.workers
+  with_workers : (rows : List Row) (file : Text) (x : Option words.WorkersAsked) (o : words.SessionAsked) → ((w : words.WorkersAsked) → x ≡ Some w → AreFew w) → option_map (words.session_with rows file) x ≡ Some o → AreFew o.workers
   with_workers rows file None o h e = absurd cc
-  with_workers rows file (Some w) o h e = let same : words.session_with file w ≡ o = cc in subst (λ (x : words.SessionAsked). AreFew x.workers) same (h w refl)
+  with_workers rows file (Some w) o h e = let same : words.session_with rows file w ≡ o = cc in subst (λ (x : words.SessionAsked). AreFew x.workers) same (h w refl)
 
-  of_session : (rows : List Row) (file : Option Text) (o : words.SessionAsked) → option_and_then (λ f. option_map (words.session_with f) (words.workers_of rows)) file ≡ Some o → AreFew o.workers
+  of_session : (rows : List Row) (file : Option Text) (o : words.SessionAsked) → option_and_then (λ f. option_map (words.session_with rows f) (words.workers_of rows)) file ≡ Some o → AreFew o.workers
   of_session rows None o e = absurd cc
   of_session rows (Some f) o e = with_workers rows f (words.workers_of rows) o (λ w h. are_few w rows h) e
 
-  with_links : (file listen : Text) (w : words.WorkersAsked) (x : Option ℕ) (o : words.ServeAsked) → AreFew w → ((n : ℕ) → x ≡ Some n → n ≤ 64) → option_map (words.serve_with file w listen) x ≡ Some o → AreFew o.workers × (o.links ≤ 64)
-  with_links file listen w None o few most e = absurd cc
-  with_links file listen w (Some n) o few most e =
-      let same : words.serve_with file w listen n ≡ o = cc in
+  with_links : (rows : List Row) (file listen : Text) (w : words.WorkersAsked) (x : Option ℕ) (o : words.ServeAsked) → AreFew w → ((n : ℕ) → x ≡ Some n → n ≤ 64) → option_map (words.serve_with rows file w listen) x ≡ Some o → AreFew o.workers × (o.links ≤ 64)
+  with_links rows file listen w None o few most e = absurd cc
+  with_links rows file listen w (Some n) o few most e =
+      let same : words.serve_with rows file w listen n ≡ o = cc in
       subst (λ (x : words.ServeAsked). AreFew x.workers × (x.links ≤ 64)) same (few, most n refl)
 
-  with_listen : (file : Text) (w : words.WorkersAsked) (x : Option Text) (y : Option ℕ) (o : words.ServeAsked) → AreFew w → ((n : ℕ) → y ≡ Some n → n ≤ 64) → option_and_then (λ listen. option_map (words.serve_with file w listen) y) x ≡ Some o
+  with_listen : (rows : List Row) (file : Text) (w : words.WorkersAsked) (x : Option Text) (y : Option ℕ) (o : words.ServeAsked) → AreFew w → ((n : ℕ) → y ≡ Some n → n ≤ 64) → option_and_then (λ listen. option_map (words.serve_with rows file w listen) y) x ≡ Some o
       → AreFew o.workers × (o.links ≤ 64)
-  with_listen file w None y o few most e = absurd cc
-  with_listen file w (Some listen) y o few most e = with_links file listen w y o few most e
+  with_listen rows file w None y o few most e = absurd cc
+  with_listen rows file w (Some listen) y o few most e = with_links rows file listen w y o few most e
 
-  with_crew : (file : Text) (x : Option words.WorkersAsked) (l : Option Text) (y : Option ℕ) (o : words.ServeAsked) → ((w : words.WorkersAsked) → x ≡ Some w → AreFew w) → ((n : ℕ) → y ≡ Some n → n ≤ 64)
-      → option_and_then (λ w. option_and_then (λ listen. option_map (words.serve_with file w listen) y) l) x ≡ Some o → AreFew o.workers × (o.links ≤ 64)
-  with_crew file None l y o few most e = absurd cc
-  with_crew file (Some w) l y o few most e = with_listen file w l y o (few w refl) most e
+  with_crew : (rows : List Row) (file : Text) (x : Option words.WorkersAsked) (l : Option Text) (y : Option ℕ) (o : words.ServeAsked) → ((w : words.WorkersAsked) → x ≡ Some w → AreFew w) → ((n : ℕ) → y ≡ Some n → n ≤ 64)
+      → option_and_then (λ w. option_and_then (λ listen. option_map (words.serve_with rows file w listen) y) l) x ≡ Some o → AreFew o.workers × (o.links ≤ 64)
+  with_crew rows file None l y o few most e = absurd cc
+  with_crew rows file (Some w) l y o few most e = with_listen rows file w l y o (few w refl) most e
 
   of_serve : (rows : List Row) (file : Option Text) (o : words.ServeAsked)
-      → option_and_then (λ f. option_and_then (λ w. option_and_then (λ listen. option_map (words.serve_with f w listen) (words.links_of rows)) (first_of (codes "listen") rows)) (words.workers_of rows)) file ≡ Some o → AreFew o.workers × (o.links ≤ 64)
+      → option_and_then (λ f. option_and_then (λ w. option_and_then (λ listen. option_map (words.serve_with rows f w listen) (words.links_of rows)) (first_of (codes "listen") rows)) (words.workers_of rows)) file ≡ Some o → AreFew o.workers × (o.links ≤ 64)
   of_serve rows None o e = absurd cc
-  of_serve rows (Some f) o e = with_crew f (words.workers_of rows) (first_of (codes "listen") rows) (words.links_of rows) o (λ w h. are_few w rows h) (λ n h. numbered 1 64 n (first_of (codes "links") rows) h) e
+  of_serve rows (Some f) o e = with_crew rows f (words.workers_of rows) (first_of (codes "listen") rows) (words.links_of rows) o (λ w h. are_few w rows h) (λ n h. numbered 1 64 n (first_of (codes "links") rows) h) e
 
   chosen : (rows : List Row) (p c l g s v : Bool)
       → (if p then option_map words.plan (words.plan_of rows)
@@ -106,9 +107,9 @@ abbrev IsFew : CrewAsked → Type 0
 IsFew c = (c.movers ≤ 64) × (c.planners ≤ 4) × (links_in c.serving ≤ 64)
 
 lived : (a : words.Asked) (l : LiveAsked) → Holds a → live_of a ≡ Some l → IsFew l.crew
-lived (words.session o) l h e = let same : record { file = o.file; crew = record { movers = o.workers.movers; planners = o.workers.planners; serving = None } } ≡ l = cc in subst (λ (x : LiveAsked). IsFew x.crew) same (h.0, h.1, omega arith)
+lived (words.session o) l h e = let same : record { file = o.file; crew = record { movers = o.workers.movers; planners = o.workers.planners; serving = None; reviews = o.review } } ≡ l = cc in subst (λ (x : LiveAsked). IsFew x.crew) same (h.0, h.1, omega arith)
 lived (words.serve o) l h e =
-    let same : record { file = o.file; crew = record { movers = o.workers.movers; planners = o.workers.planners; serving = Some (record { address = o.listen; links = o.links }) } } ≡ l = cc in
+    let same : record { file = o.file; crew = record { movers = o.workers.movers; planners = o.workers.planners; serving = Some (record { address = o.listen; links = o.links }); reviews = o.review } } ≡ l = cc in
     subst (λ (x : LiveAsked). IsFew x.crew) same (h.0.0, h.0.1, h.1)
 lived _ l h e = absurd cc
 

@@ -1,12 +1,12 @@
 -- A copier that is taken out of a list, and put back.
-use Rattle.std.proofs.Common.{◌≡◌, ◌<◌, ℕ, true, false, zero, suc, List, [], ◌∷◌, length, map, slice_index_or, refl, ap, sym, ◌∙◌, arith}
+use Rattle.std.proofs.Common.{◌≡◌, ◌<◌, ◌≤◌, ℕ, true, false, zero, suc, List, [], ◌∷◌, length, map, slice_index_or, refl, ap, sym, ◌∙◌, arith}
 use Rattle.std.specs.List.{insert, remove}
 use Rattle.std.specs.Prelude.{Option, Some, None, IfSome, IsSome}
 use Rattle.cluster_json.specs.File.{Meaning}
 use Rattle.control_core.specs.Books.{BookView}
 use Rattle.live_service.specs.Asked as asked
 use Rattle.live_service.specs.declared.links.Serving.{Serving}
-use Rattle.cc_program.specs.Lives.{CrewAsked, Gate, IsLeftFrom, IsOver, links_in}
+use Rattle.cc_program.specs.Lives.{Gate, IsLeftFrom, IsOver, links_in}
 use Rattle.cc_program.specs.Outside.{LeftView, OutsideView}
 use Rattle.quiet_commands.specs.declared.ends.End.{End}
 
@@ -14,6 +14,14 @@ pub put_back : {X : Type 0} (xs : List X) (n : ℕ) (x : X) → n < length xs �
 put_back [] n x p v = absurd (omega (arith, p))
 put_back (y ∷ xs) zero x p v = ap (λ (h : _). h ∷ xs) (sym v)
 put_back (y ∷ xs) (suc n) x p v = ap (λ (t : List _). y ∷ t) (put_back xs n x (omega (arith, p)) v)
+
+pub removed_length : {X : Type 0} (xs : List X) (n : ℕ) → n < length xs → length xs ≤ suc (length (remove xs n))
+removed_length [] n p = absurd (omega (arith, p))
+removed_length (y ∷ xs) zero p = omega arith
+removed_length (y ∷ xs) (suc n) p =
+    let less = removed_length xs n (omega (arith, p)) in
+    let same : length (remove (y ∷ xs) (suc n)) ≡ suc (length (remove xs n)) = refl in
+    omega (arith, less, same)
 
 map_insert : {X Y : Type 0} (f : X → Y) (xs : List X) (n : ℕ) (x : X) → map f (insert xs n x) ≡ insert (map f xs) n (f x)
 map_insert f xs zero x = refl
@@ -27,7 +35,7 @@ pub put_in : {X Y : Type 0} (f : X → Y) (xs ys : List X) (n : ℕ) (x : X) →
 put_in f xs ys n x e = ap (map f) e ∙ map_insert f xs n x
 
 -- a book that was begun
-pub left_begun : {A : Type 0} (gate : Gate A) (m : Meaning) (crew : CrewAsked) (o : OutsideView) (admin : A) (l : LeftView A) (book : Option (BookView A)) (end : End)
+pub left_begun : {A : Type 0} (gate : Gate A) (m : Meaning) (crew : asked.CrewAsked) (o : OutsideView) (admin : A) (l : LeftView A) (book : Option (BookView A)) (end : End)
     → IsSome book → IfSome book (λ c. IsOver gate (gate.faults admin) m crew o l c end) → IsLeftFrom gate m crew o admin l book end
 left_begun gate m crew o admin l None end is over = absurd (let h : false ≡ true = is in cc)
 left_begun gate m crew o admin l (Some c) end is over = over

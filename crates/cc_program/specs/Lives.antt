@@ -12,7 +12,7 @@ use Rattle.core_laws.specs.Events.{AreListsShown}
 use Rattle.core_terms.specs.History.{AreLegal}
 use Rattle.core_terms.specs.Sound.{IsSound}
 use Rattle.exec_terms.specs.Machine.{lists_now}
-use Rattle.live_service.specs.Asked.{ServingAsked, serving_told}
+use Rattle.live_service.specs.Asked.{CrewAsked, ServingAsked, crew_told}
 use Rattle.live_service.specs.Live.{IsLive}
 use Rattle.live_service.specs.Views.{ServedView, TeamView}
 use Rattle.live_service.specs.declared.front.FrontEnd.{FrontEnd}
@@ -24,32 +24,26 @@ use Rattle.mover_rounds.specs.declared.drains.DrainEnd.TheVariants as drain
 use Rattle.plan_terms.specs.Cluster.{Lists}
 use Rattle.rest_session.specs.declared.session.LinkEnd.{LinkEnd}
 use Rattle.rest_session.specs.declared.session.LinkEnd.TheVariants as link
+use Rattle.review_board.specs.declared.events.BoardEvent.{BoardEvent}
 use Rattle.quiet_commands.specs.Ends.{refusal_line}
 use Rattle.quiet_commands.specs.Input.{IsRefused, Means}
 use Rattle.quiet_commands.specs.Sessions.{drained_end, ended_by}
 use Rattle.quiet_commands.specs.declared.ends.End.{End}
 use Rattle.cc_program.specs.Outside.{LeftView, OutsideView}
-use Rattle.cc_program.specs.declared.lives.Crew.{Crew}
 use Rattle.cc_program.specs.declared.lives.LiveRequest.{LiveRequest}
 use Rattle.quiet_commands.specs.declared.ends.End.TheVariants.{FileFault, ListenerFault, Memory, NotDrained, Refused, Usage}
-
--- so many movers and planners, and the links that are served. Without links the requests are those of the console
-pub record CrewAsked : Type 0 where
-  pub movers : ℕ
-  pub planners : ℕ
-  pub serving : Option ServingAsked
 
 -- a run over the cluster of a file
 pub record LiveAsked : Type 0 where
   pub file : List ℕ
   pub crew : CrewAsked
 
-abbrev pub crew_with : words.WorkersAsked → Option ServingAsked → CrewAsked
-crew_with workers serving = record { movers = workers.movers; planners = workers.planners; serving = serving }
+abbrev pub crew_with : words.WorkersAsked → Option ServingAsked → Bool → CrewAsked
+crew_with workers serving reviews = record { movers = workers.movers; planners = workers.planners; serving = serving; reviews = reviews }
 
 abbrev pub live_of : words.Asked → Option LiveAsked
-live_of (words.session o) = Some (record { file = o.file; crew = crew_with o.workers None })
-live_of (words.serve o) = Some (record { file = o.file; crew = crew_with o.workers (Some (record { address = o.listen; links = o.links })) })
+live_of (words.session o) = Some (record { file = o.file; crew = crew_with o.workers None o.review })
+live_of (words.serve o) = Some (record { file = o.file; crew = crew_with o.workers (Some (record { address = o.listen; links = o.links })) o.review })
 live_of _ = None
 
 -- what the words ask of a run with threads
@@ -57,9 +51,6 @@ abbrev pub live_command : List (List ℕ) → Option LiveAsked
 live_command given = option_and_then live_of (words.meaning given)
 
 -- the same as a value of the program
-abbrev pub crew_told : Crew → CrewAsked
-crew_told crew = record { movers = crew.workers.movers; planners = crew.workers.planners; serving = serving_told crew.serving }
-
 abbrev pub live_told : LiveRequest → LiveAsked
 live_told request = record { file = string_bytes request.file; crew = crew_told request.crew }
 
@@ -120,6 +111,11 @@ pub record IsLeftOf {A : Type 0} (crew : CrewAsked) (l : LeftView A) (t : TeamVi
   pub movers : l.movers ≡ t.movers
   pub planners : l.planners ≡ t.planners
 
+-- the board's journal, where requests were reviewed
+abbrev pub board_left : {A : Type 0} → Bool → A → Option A
+board_left true board = Some board
+board_left false board = None
+
 -- a whole run over the cluster that a file means, with the movers, planners and links that were asked for, which so many failed calls of
 -- the admin had come before: a legal history, whose state is
 -- sound and shows each list as the old one, the new one or, in flight, both; and the admin's lists, where they are told, are those of it
@@ -131,7 +127,9 @@ pub record IsLiveOf {A : Type 0} (admin : Gate A) (before : ℕ) (m : Meaning) (
   pub given_is : IsTeamOf crew o given
   pub back : TeamView
   pub back_is : IsLeftOf crew l back
-  pub live : IsLive admin.faults crew.serving b c given back e d crew.movers crew.planners
+  pub board : List BoardEvent
+  pub board_is : l.board ≡ board_left crew.reviews board
+  pub live : IsLive admin.faults crew board b c given back e d
   pub legal : AreLegal c.journal
   pub lists : IfSome (admin.told c.admin) (λ lists. lists ≡ lists_now (state_of c).desk.exec)
   pub sound : IsSound m (state_of c).desk
@@ -139,12 +137,13 @@ pub record IsLiveOf {A : Type 0} (admin : Gate A) (before : ℕ) (m : Meaning) (
   pub drained : d ≡ drain.Drained → IsDone (state_of c).desk
   pub late : (number : ℕ) → d ≡ drain.AdminFault number → (1 ≤ c.late) ⊎ (18446744073709551615 ≤ c.failures)
 
--- nothing was done outside: no link was accepted, no loop began, and there was no drain
+-- nothing was done outside: no link was accepted, no loop began, and there was no board and no drain
 pub record IsIdle {A : Type 0} (o : OutsideView) (l : LeftView A) : Type 0 where
   pub outside : l.outside ≡ o
   pub links : l.links ≡ []
   pub movers : l.movers ≡ []
   pub planners : l.planners ≡ []
+  pub board : l.board ≡ None
   pub drain : l.drain ≡ None
 
 -- there was no memory to share the book, and nothing was done: it is as it was opened, and the admin's lists are those of the file

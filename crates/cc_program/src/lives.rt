@@ -5,10 +5,11 @@ ghost use Rattle.cluster_json.specs.Ranges.{IsFile};
 ghost use Rattle.cluster_json.specs.Views.{file_seen};
 ghost use Rattle.control_core.specs.Books.{opened};
 ghost use Rattle.quiet_commands.specs.Ends.{IsTold, lines_of, status_of};
-ghost use Rattle.cc_program.specs.Lives.{IsLeft, IsOver, IsTeamOf, IsUnasked, Leaves, copiers_before, crew_told, ended_live, gate, is_loop_want, live_command, live_told, or_want, shelf, wanted};
+ghost use Rattle.command_words.specs.Meaning.{workers_told};
+ghost use Rattle.cc_program.specs.Lives.{IsLeft, IsOver, IsTeamOf, IsUnasked, Leaves, board_left, copiers_before, crew_with, ended_live, gate, is_loop_want, live_command, live_told, or_want, shelf, wanted};
 ghost use Rattle.cc_program.specs.Outside.{OutsideView};
 ghost use Rattle.quiet_commands.specs.declared.ends.End.{End};
-ghost use Rattle.live_service.specs.Asked.{IsReady, links_of};
+ghost use Rattle.live_service.specs.Asked.{IsReady, crew_told, links_of, serving_told};
 
 use crate::outside::{Ended, Left, Outside};
 use cc_base::{Files, Link, Sink};
@@ -17,30 +18,35 @@ use cluster_json::ClusterFile;
 use command_words::{Command, WordsFault, Workers, read_words};
 use control_core::Book;
 use live_service::{
-    Front, FrontEnd, Live, Of, Served, Service, Serving, Team, Unshared, run_live_service,
+    Crew, Front, FrontEnd, Live, Of, Served, Service, Serving, Team, Unshared, run_live_service,
 };
 use mover_rounds::DrainEnd;
 use mover_workers::LoopEnd;
 use net_links::Listener;
 use quiet_commands::{End, LoadFault, Request, conclude, drained_end, ended_by, load};
 use rest_session::{LinkEnd, SessionEnd};
+use review_board::Board;
 use std::alloc::Global;
 use std::sync::Wait;
 use std::thread::Threads;
-
-/// Who works over a book: movers and planners, and the links that are served. Without links the
-/// requests are those of the console.
-#[derive(Drop)]
-pub struct Crew {
-    pub workers: Workers,
-    pub serving: Option<Serving>,
-}
 
 /// A run over the cluster of a file.
 #[derive(Drop)]
 pub struct LiveRequest {
     pub file: String,
     pub crew: Crew,
+}
+
+// These movers and planners, and these links.
+fn crew_of(workers: Workers, serving: Option<Serving>, reviews: bool) -> Crew
+    ensures { crew_told result ≡ crew_with (workers_told workers) (serving_told serving) reviews }
+{
+    Crew {
+        movers: workers.movers,
+        planners: workers.planners,
+        serving,
+        reviews,
+    }
 }
 
 // What the words ask of a run with threads.
@@ -52,20 +58,18 @@ fn read_live(alloc: Global, words: &[String]) -> Result<LiveRequest, WordsFault>
     match read_words(alloc, words)? {
         Command::Session(options) => Ok(LiveRequest {
             file: options.file,
-            crew: Crew {
-                workers: options.workers,
-                serving: None,
-            },
+            crew: crew_of(options.workers, None, options.review),
         }),
         Command::Serve(options) => Ok(LiveRequest {
             file: options.file,
-            crew: Crew {
-                workers: options.workers,
-                serving: Some(Serving {
+            crew: crew_of(
+                options.workers,
+                Some(Serving {
                     address: options.listen,
                     links: options.links,
                 }),
-            },
+                options.review,
+            ),
         }),
         _ => Err(WordsFault::Usage),
     }
@@ -83,10 +87,10 @@ fn links_in(serving: &Option<Serving>) -> u32
 
 // How many copiers stand before that of the console.
 fn copiers_before(crew: &Crew) -> usize
-    requires { crew.now.workers.movers + links_of crew.now.serving < 1048576 }
-    ensures { result ≡ crew.now.workers.movers + links_of crew.now.serving }
+    requires { crew.now.movers + links_of crew.now.serving < 1048576 }
+    ensures { result ≡ crew.now.movers + links_of crew.now.serving }
 {
-    (crew.workers.movers + links_in(&crew.serving)) as usize
+    (crew.movers + links_in(&crew.serving)) as usize
 }
 
 // The same, where there are copiers enough beside that of the console.
@@ -170,10 +174,10 @@ fn team_of<A: Admin + Send, K: Copier + Send + Drop, L: Link + Drop, N: Listener
 where
     N::Conn: Send + Drop,
     requires enough { copiers_before (crew_told crew.now) < length outside.copiers }
-    requires few { crew.now.workers.planners + copiers_before (crew_told crew.now) < 1048576 }
+    requires few { crew.now.planners + copiers_before (crew_told crew.now) < 1048576 }
     ensures team { IfOk result (IsTeamOf (crew_told crew.now) outside) }
     ensures ready { IfOk result
-        (λ t. IsReady t 1048576 crew.now.workers.movers crew.now.workers.planners
+        (λ t. IsReady t 1048576 1048576 crew.now.movers crew.now.planners
         (links_of crew.now.serving)) }
     ensures room { IfOk result
         (λ t. length t.front.service.copiers < t.front.service.room) }
@@ -182,10 +186,10 @@ where
     let Ok(served) = Vec::with_capacity(alloc, links_in(&crew.serving) as usize) else {
         return Err(outside);
     };
-    let Ok(movers) = Vec::with_capacity(alloc, crew.workers.movers as usize) else {
+    let Ok(movers) = Vec::with_capacity(alloc, crew.movers as usize) else {
         return Err(outside);
     };
-    let Ok(planners) = Vec::with_capacity(alloc, crew.workers.planners as usize) else {
+    let Ok(planners) = Vec::with_capacity(alloc, crew.planners as usize) else {
         return Err(outside);
     };
     let Outside {
@@ -215,6 +219,7 @@ fn left_of<A: Admin + Send, K: Copier + Send + Drop, L: Link + Drop, N: Listener
     at: usize,
     book: Option<Book<A>>,
     admin: Option<A>,
+    board: Option<Board>,
     drain: Option<DrainEnd>,
     team: Team<Of<A, K, L, N>>,
 ) -> Left<A, K, L, N>
@@ -226,6 +231,7 @@ where
         ≡ record {
           book = book;
           admin = admin;
+          board = board;
           drain = drain;
           outside = record {
             copiers = insert team.front.service.copiers at team.front.copier;
@@ -258,6 +264,7 @@ where
     Left {
         book,
         admin,
+        board,
         drain,
         outside: Outside {
             copiers,
@@ -268,6 +275,13 @@ where
         movers,
         planners,
     }
+}
+
+// The board, where requests were reviewed.
+fn board_left(reviews: bool, board: Board) -> Option<Board>
+    ensures { result ≡ board_left reviews board }
+{
+    if reviews { Some(board) } else { None }
 }
 
 // Runs a service over a book that was just begun.
@@ -289,7 +303,7 @@ where
     // The book is as it was opened.
     requires opened { book ≡ opened book.file book.admin }
     // A copier and a part for each mover, planner and link, and room for what they bring back.
-    requires ready { IsReady team 1048576 crew.workers.movers crew.workers.planners
+    requires ready { IsReady team 1048576 1048576 crew.movers crew.planners
         (links_of crew.serving) }
     requires room { length team.front.service.copiers < team.front.service.room }
     // The book comes back, behind what the session did.
@@ -300,29 +314,26 @@ where
         outside result.1 c result.0) }
 {
     let at = copiers_before(&crew);
-    let Crew { workers, serving } = crew;
+    let reviews = crew.reviews;
     let _lists = book.journal();
-    match run_live_service(
-        rt,
-        alloc,
-        book,
-        team,
-        workers.movers,
-        workers.planners,
-        serving,
-    ) {
+    match run_live_service(rt, alloc, book, team, crew) {
         Ok(live) => {
             let Live {
                 book,
+                board,
                 team,
                 end,
                 drain,
             } = live;
-            let left = left_of(at, Some(book), None, Some(drain), team);
+            let board = board_left(reviews, board);
+            let left = left_of(at, Some(book), None, board, Some(drain), team);
             let want = any_want(&left.links, &left.movers, &left.planners);
             (ended_live(end, want, drain), left)
         }
-        Err(Unshared { book, team }) => (End::Memory, left_of(at, Some(book), None, None, team)),
+        Err(Unshared { book, team }) => {
+            let left = left_of(at, Some(book), None, None, None, team);
+            (End::Memory, left)
+        }
     }
 }
 
@@ -346,7 +357,7 @@ where
     N::Conn: Send + Drop,
     requires file { IsFile file }
     requires enough { copiers_before (crew_told crew) < length outside.copiers }
-    requires few { crew.workers.planners + copiers_before (crew_told crew) < 1048576 }
+    requires few { crew.planners + copiers_before (crew_told crew) < 1048576 }
     ensures left { IsLeft (gate A.faults A.told) (file_seen file) (crew_told crew) outside admin
         result.1 result.0 }
 {
@@ -357,11 +368,11 @@ where
     match Book::begin(alloc, file, admin) {
         Ok(book) => live(rt, alloc, book, team, crew),
         Err((InstallFault::Failed, admin)) => {
-            let left = left_of(copiers_before(&crew), None, Some(admin), None, team);
+            let left = left_of(copiers_before(&crew), None, Some(admin), None, None, team);
             (End::NotDrained, left)
         }
         Err((InstallFault::Memory, admin)) => {
-            let left = left_of(copiers_before(&crew), None, Some(admin), None, team);
+            let left = left_of(copiers_before(&crew), None, Some(admin), None, None, team);
             (End::Memory, left)
         }
     }
@@ -395,7 +406,11 @@ where
         Err(WordsFault::Usage) => return (End::Usage, Left::idle(alloc, Some(admin), outside)),
         Err(WordsFault::Memory) => return (End::Memory, Left::idle(alloc, Some(admin), outside)),
     };
-    match load(alloc, files, &Request::Session { file }) {
+    let source = Request::Session {
+        file,
+        review: crew.reviews,
+    };
+    match load(alloc, files, &source) {
         Ok(file) => begin(rt, alloc, file, admin, outside, crew),
         Err(LoadFault::Refused(line)) => (
             End::Refused(line),

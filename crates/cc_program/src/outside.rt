@@ -9,6 +9,7 @@ use live_service::Served;
 use mover_rounds::DrainEnd;
 use mover_workers::LoopEnd;
 use net_links::Listener;
+use review_board::Board;
 use std::alloc::Global;
 use std::marker::Model;
 
@@ -45,7 +46,8 @@ impl<K: Copier, L: Link, N: Listener> Outside<K, L, N> {
     }
 }
 
-/// What a run leaves. Without threads there are no book, no admin and no copiers, and nobody worked.
+/// What a run leaves. Without threads there are no book, no admin, no board and no copiers, and
+/// nobody worked.
 #[derive(Drop)]
 pub struct Left<A: Admin, K: Copier, L: Link, N: Listener>
 where
@@ -55,6 +57,8 @@ where
     pub book: Option<Book<A>>,
     /// The admin, where no book was begun.
     pub admin: Option<A>,
+    /// The board on which requests were reviewed, where they were.
+    pub board: Option<Board>,
     /// How the drain ended, where there was one.
     pub drain: Option<DrainEnd>,
     pub outside: Outside<K, L, N>,
@@ -79,6 +83,7 @@ where
     ghost view = { λ l. record {
       book = l.book;
       admin = l.admin;
+      board = l.board;
       drain = l.drain;
       outside = l.outside;
       links = map (λ c. record {
@@ -105,6 +110,7 @@ where
         Left {
             book: None,
             admin,
+            board: None,
             drain: None,
             outside,
             links: Vec::new(alloc),

@@ -53,12 +53,14 @@ pub record WorkersAsked : Type 0 where
 pub record SessionAsked : Type 0 where
   pub file : Text
   pub workers : WorkersAsked
+  pub review : Bool
 
 pub record ServeAsked : Type 0 where
   pub file : Text
   pub workers : WorkersAsked
   pub listen : Text
   pub links : ℕ
+  pub review : Bool
 
 -- what is asked
 pub data Asked : Type 0 where
@@ -144,20 +146,24 @@ workers_with movers planners = record { movers = movers; planners = planners }
 abbrev pub workers_of : List Row → Option WorkersAsked
 workers_of rows = option_and_then (λ movers. option_map (workers_with movers) (number_in 0 4 (first_of (codes "planners") rows))) (number_in 0 64 (first_of (codes "movers") rows))
 
-abbrev pub session_with : Text → WorkersAsked → SessionAsked
-session_with file workers = record { file = file; workers = workers }
+-- what starts something is reviewed first
+abbrev pub review_of : List Row → Bool
+review_of rows = is_given (first_of (codes "review") rows)
+
+abbrev pub session_with : List Row → Text → WorkersAsked → SessionAsked
+session_with rows file workers = record { file = file; workers = workers; review = review_of rows }
 
 abbrev pub session_of : List Row → Option SessionAsked
-session_of rows = option_and_then (λ file. option_map (session_with file) (workers_of rows)) (first_of (codes "FILE") rows)
+session_of rows = option_and_then (λ file. option_map (session_with rows file) (workers_of rows)) (first_of (codes "FILE") rows)
 
 abbrev pub links_of : List Row → Option ℕ
 links_of rows = number_in 1 64 (first_of (codes "links") rows)
 
-abbrev pub serve_with : Text → WorkersAsked → Text → ℕ → ServeAsked
-serve_with file workers listen links = record { file = file; workers = workers; listen = listen; links = links }
+abbrev pub serve_with : List Row → Text → WorkersAsked → Text → ℕ → ServeAsked
+serve_with rows file workers listen links = record { file = file; workers = workers; listen = listen; links = links; review = review_of rows }
 
 abbrev pub serve_of : List Row → Option ServeAsked
-serve_of rows = option_and_then (λ file. option_and_then (λ workers. option_and_then (λ listen. option_map (serve_with file workers listen) (links_of rows)) (first_of (codes "listen") rows)) (workers_of rows)) (first_of (codes "FILE") rows)
+serve_of rows = option_and_then (λ file. option_and_then (λ workers. option_and_then (λ listen. option_map (serve_with rows file workers listen) (links_of rows)) (first_of (codes "listen") rows)) (workers_of rows)) (first_of (codes "FILE") rows)
 
 -- ---- what the words mean
 
@@ -200,10 +206,10 @@ abbrev pub workers_told : Workers → WorkersAsked
 workers_told w = record { movers = w.movers; planners = w.planners }
 
 abbrev pub session_told : SessionOptions → SessionAsked
-session_told o = record { file = string_bytes o.file; workers = workers_told o.workers }
+session_told o = record { file = string_bytes o.file; workers = workers_told o.workers; review = o.review }
 
 abbrev pub serve_told : ServeOptions → ServeAsked
-serve_told o = record { file = string_bytes o.file; workers = workers_told o.workers; listen = string_bytes o.listen; links = o.links }
+serve_told o = record { file = string_bytes o.file; workers = workers_told o.workers; listen = string_bytes o.listen; links = o.links; review = o.review }
 
 abbrev pub told : Command → Asked
 told (command.Plan o) = plan (plan_told o)

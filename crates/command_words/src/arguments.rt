@@ -1,7 +1,7 @@
 // The operands and options, each told to clap by a function of its own.
 ghost use Rattle.std.specs.Prelude.{◌≡◌, false};
 ghost use Rattle.clap.specs.Words.{rule_of};
-ghost use Rattle.command_words.specs.Arguments.{brokers_rule, excluded_rule, file_flag_rule, file_rule, goals_rule, links_rule, listen_rule, movers_rule, partitions_rule, planners_rule, seed_rule, skip_rule, trace_file_rule, trace_flag_rule};
+ghost use Rattle.command_words.specs.Arguments.{brokers_rule, excluded_rule, file_flag_rule, file_rule, goals_rule, links_rule, listen_rule, movers_rule, partitions_rule, planners_rule, review_rule, seed_rule, skip_rule, trace_file_rule, trace_flag_rule};
 
 use clap::{Arg, ArgAction};
 use std::alloc::Global;
@@ -130,4 +130,14 @@ pub fn links<'a>(alloc: Global) -> Arg<'a>
     ensures local { result.global ≡ false }
 {
     Arg::new(alloc, "links").long("links").default_value("1")
+}
+
+/// `--review`.
+pub fn review<'a>(alloc: Global) -> Arg<'a>
+    ensures rule { rule_of result ≡ review_rule }
+    ensures local { result.global ≡ false }
+{
+    Arg::new(alloc, "review")
+        .long("review")
+        .action(ArgAction::SetTrue)
 }

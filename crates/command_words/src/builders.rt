@@ -63,7 +63,8 @@ fn session_command<'a>(alloc: Global) -> Result<Command<'a>, AllocError>
     let named = Command::new(alloc, "session");
     let with_file = named.arg(arguments::file(alloc))?;
     let with_movers = with_file.arg(arguments::movers(alloc))?;
-    with_movers.arg(arguments::planners(alloc))
+    let with_planners = with_movers.arg(arguments::planners(alloc))?;
+    with_planners.arg(arguments::review(alloc))
 }
 
 fn serve_command<'a>(alloc: Global) -> Result<Command<'a>, AllocError>
@@ -75,7 +76,8 @@ fn serve_command<'a>(alloc: Global) -> Result<Command<'a>, AllocError>
     let with_movers = with_file.arg(arguments::movers(alloc))?;
     let with_planners = with_movers.arg(arguments::planners(alloc))?;
     let with_listen = with_planners.arg(arguments::listen(alloc))?;
-    with_listen.arg(arguments::links(alloc))
+    let with_links = with_listen.arg(arguments::links(alloc))?;
+    with_links.arg(arguments::review(alloc))
 }
 
 /// The program with its six commands.

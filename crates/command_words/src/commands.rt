@@ -73,6 +73,8 @@ pub struct SessionOptions {
     /// The name of the cluster file.
     pub file: String,
     pub workers: Workers,
+    /// What starts something is reviewed first.
+    pub review: bool,
 }
 
 /// The options of `serve`.
@@ -85,6 +87,8 @@ pub struct ServeOptions {
     pub listen: String,
     /// How many links are served: 1 to 64.
     pub links: u32,
+    /// What starts something is reviewed first.
+    pub review: bool,
 }
 
 /// A command with its options.

@@ -2,7 +2,7 @@
 ghost use Rattle.std.specs.Prelude.{◌≡◌, IfOk, option_and_then, option_map};
 ghost use Rattle.clap.specs.Words.{found_of, rows_of, subcommand_rows_of};
 ghost use Rattle.command_words.specs.Names.{names_of};
-ghost use Rattle.command_words.specs.Meaning.{apply_of, apply_told, asked_of, check_of, check_told, excluded_of, gen_of, gen_told, goals_of, goals_told, plan_of, plan_told, serve_of, serve_told, session_of, session_told, told, workers_of, workers_told};
+ghost use Rattle.command_words.specs.Meaning.{apply_of, apply_told, asked_of, check_of, check_told, excluded_of, gen_of, gen_told, goals_of, goals_told, plan_of, plan_told, review_of, serve_of, serve_told, session_of, session_told, told, workers_of, workers_told};
 
 use crate::commands::{
     ApplyOptions, CheckOptions, Command, GenOptions, Goals, PlanOptions, ServeOptions,
@@ -119,6 +119,13 @@ fn workers(found: &ArgMatches<'_>) -> Option<Workers>
 }
 
 #[tactic(auto, using(crate::proofs::Rows::first_text))]
+fn review(found: &ArgMatches<'_>) -> bool
+    ensures { result ≡ review_of (rows_of (found_of found.now)) }
+{
+    is_given(found.get_str("review"))
+}
+
+#[tactic(auto, using(crate::proofs::Rows::first_text))]
 fn session_options(
     alloc: Global,
     found: &ArgMatches<'_>,
@@ -132,8 +139,11 @@ fn session_options(
     let Some(workers) = workers(found) else {
         return Ok(None);
     };
-    let file = String::from_str(alloc, file)?;
-    Ok(Some(SessionOptions { file, workers }))
+    Ok(Some(SessionOptions {
+        file: String::from_str(alloc, file)?,
+        workers,
+        review: review(found),
+    }))
 }
 
 #[tactic(auto, using(crate::proofs::Rows::first_text))]
@@ -157,6 +167,7 @@ fn serve_options(alloc: Global, found: &ArgMatches<'_>) -> Result<Option<ServeOp
         workers,
         listen: String::from_str(alloc, listen)?,
         links,
+        review: review(found),
     }))
 }
 

@@ -8,27 +8,27 @@ use Rattle.mover_rounds.proofs.Prefixes.{prefix_self, prefix_trans}
 use Rattle.mover_workers.specs.Callers.{HasGrown, IsLater, known_by_pass}
 use Rattle.mover_workers.specs.Loops.{CallsNoAdmin, HasMoved, HasPlanned, IsLoopCause}
 use Rattle.mover_workers.specs.declared.loops.LoopEnd.{LoopEnd}
-use Rattle.turn_book.specs.Known.{HasJoined, IsCut}
+use Rattle.turn_book.specs.Known.{HasJoined, IsCut, Known as PassView}
 use Rattle.turn_book.specs.Rule.{ArePlaced}
 use Rattle.live_service.specs.Workers.{AllSaw, AllTold, HasRun, HasRunAll, HasShares, Mover, Pass, Planner, shares_of}
 
-saw_on : (h g : List Event) → IsPrefix h g → (ps : List Pass) → AllSaw h ps → AllSaw g ps
+saw_on : {O E : Type 0} (h g : List E) → IsPrefix h g → (ps : List (PassView O E)) → AllSaw h ps → AllSaw g ps
 saw_on h g p [] a = tt
 saw_on h g p (q ∷ ps) a = (prefix_trans q.seen h g a.0 p, saw_on h g p ps a.1)
 
-told_on : (m n : ℕ) → m ≤ n → (ps : List Pass) → AllTold m ps → AllTold n ps
+told_on : {O E : Type 0} (m n : ℕ) → m ≤ n → (ps : List (PassView O E)) → AllTold m ps → AllTold n ps
 told_on m n p [] a = tt
 told_on m n p (q ∷ ps) a = (omega (arith, a.0, p), told_on m n p ps a.1)
 
-mine_more : (a b c d e : List (ℕ × Event)) → e ≡ c ++ d → c ≡ a ++ b → e ≡ a ++ (b ++ d)
+mine_more : {E : Type 0} (a b c d e : List (ℕ × E)) → e ≡ c ++ d → c ≡ a ++ b → e ≡ a ++ (b ++ d)
 mine_more a b c d e p q = p ∙ (ap (λ xs. xs ++ d) q ∙ append_assoc a b d)
 
 -- no other pass yet
-pub shares_none : (v : Pass) → HasShares v v []
+pub shares_none : {O E : Type 0} (v : PassView O E) → HasShares v v []
 shares_none v = record { mine = sym (append-nil v.mine); saw = tt; longer = prefix_self v.seen; told = tt; last = omega arith }
 
 -- one more, which was joined
-pub shares_more : (v u back w : Pass) (ps : List Pass) → HasJoined u back w → HasShares v u ps → HasShares v w (back ∷ ps)
+pub shares_more : {O E : Type 0} (v u back w : PassView O E) (ps : List (PassView O E)) → HasJoined u back w → HasShares v u ps → HasShares v w (back ∷ ps)
 shares_more v u back w ps joined h = record {
   mine = mine_more v.mine (shares_of ps) u.mine back.mine w.mine joined.mine h.mine;
   saw = (joined.longer.1, saw_on u.seen w.seen joined.longer.0 ps h.saw);
@@ -38,7 +38,7 @@ shares_more v u back w ps joined h = record {
 }
 
 -- the front of shares has the entries that a pass had before it was split
-pub shares_of_whole : (v kept own w : Pass) (ps : List Pass) → IsCut v kept own → HasShares kept w ps → HasShares v w ps
+pub shares_of_whole : {O E : Type 0} (v kept own w : PassView O E) (ps : List (PassView O E)) → IsCut v kept own → HasShares kept w ps → HasShares v w ps
 shares_of_whole v kept own w ps cut h = record {
   mine = h.mine ∙ ap (λ xs. xs ++ shares_of ps) cut.mine.0;
   saw = h.saw;
@@ -48,7 +48,7 @@ shares_of_whole v kept own w ps cut h = record {
 }
 
 -- a pass that is split, used on both sides, and joined again
-pub later_joined : (v kept own u back w : Pass) → IsCut v kept own → IsLater kept u → IsLater own back → HasJoined u back w → IsLater v w
+pub later_joined : {O E : Type 0} (v kept own u back w : PassView O E) → IsCut v kept own → IsLater kept u → IsLater own back → HasJoined u back w → IsLater v w
 later_joined v kept own u back w cut p q joined = record {
   seen = prefix_trans v.seen u.seen w.seen (subst (λ s. IsPrefix s u.seen) cut.seen.0 p.seen) joined.longer.0;
   mine = (let r = subst (λ s. IsPrefix s u.mine) cut.mine.0 p.mine in (r.0 ++ back.mine, sym (append_assoc v.mine r.0 back.mine) ∙ (ap (λ xs. xs ++ back.mine) r.1 ∙ sym joined.mine)));

@@ -1,3 +1,4 @@
+pub mod Noting
 pub mod Crews
 pub mod Gone
 pub mod Teams

@@ -1,6 +1,7 @@
--- No entry of a console, of a link, of a mover or of a planner asks Close, so the Close of a front is the only one.
-use Rattle.std.proofs.Common.{◌≡◌, ◌⊎◌, ◌<◌, ℕ, zero, suc, Bool, true, false, List, [], ◌∷◌, ◌++◌, length, map, refl, ap, sym, ◌∙◌, subst, arith, inl, inr}
-use Rattle.std.specs.Prelude.{Option, Some, None, Result, Ok, Err, slice_get}
+-- No entry of a console, of a link, of a mover or of a planner asks Close, so the Close of a front is the only one. Nor does one ask a fix
+-- where requests are reviewed.
+use Rattle.std.proofs.Common.{◌≡◌, ◌⊎◌, ◌<◌, ℕ, zero, suc, Bool, true, false, ◌||◌, List, [], ◌∷◌, ◌++◌, length, map, refl, ap, sym, ◌∙◌, subst, arith, inl, inr}
+use Rattle.std.specs.Prelude.{Option, Some, None, Result, Ok, Err, is_some, slice_get}
 use Rattle.std.specs.List.{AllByRecursion, list_any}
 use Rattle.std.proofs.lemmas.Bool.{cases_lt, eq-eqb}
 use Rattle.std.proofs.lemmas.Bool.Decides.{eqb_tells}
@@ -17,24 +18,32 @@ use Rattle.core_terms.specs.declared.replies.Reason.{Reason}
 use Rattle.core_terms.specs.declared.replies.Reason.TheVariants as why
 use Rattle.core_terms.specs.declared.replies.Reply.{Reply}
 use Rattle.core_terms.specs.declared.replies.Reply.TheVariants as reply
-use Rattle.mover_rounds.specs.Asked.{Entry, Rules, entries_of, reply_to}
+use Rattle.mover_rounds.specs.Asked.{Entry, Rules, core_rules, entries_from, entries_of, reply_to}
+use Rattle.mover_rounds.specs.Exact.{HasDrainedAlone}
 use Rattle.mover_rounds.specs.Made.{Copies, joined}
+use Rattle.mover_rounds.specs.Owned.{known_by_owner}
+use Rattle.mover_rounds.specs.declared.drains.DrainEnd.{DrainEnd}
+use Rattle.mover_rounds.proofs.Draining.{made_is}
 use Rattle.mover_rounds.specs.Rounds.{IsPlanRound, done, look, undone}
-use Rattle.mover_workers.specs.Callers.{known_by_pass}
+use Rattle.mover_workers.specs.Callers.{known_by_pass, turn_rules}
+use Rattle.net_links.specs.Links.{AcceptedLink}
 use Rattle.mover_workers.specs.Loops.{AreUnitsThen, IsMoveUnit, IsPlanUnit, last_of}
 use Rattle.mover_workers.specs.Steps.{IsBehindIdle, IsIdleFor, IsIdleStep, IsLook, IsPlanStep, IsWorkStep, MoveStep}
 use Rattle.mover_workers.specs.declared.steps.Step.{Step}
 use Rattle.mover_workers.specs.declared.steps.Step.TheVariants.{Closed, Done, Idle}
-use Rattle.rest_session.proofs.Spared.{AreFree, IsSpared, both_free, close_spared, pieces_open, plan_free, work_free}
+use Rattle.rest_session.proofs.Spared.{AreFree, IsSpared, both_free, close_spared, drained_free, heal_spared, none_has, pieces_open, plan_free, reviewed_no_fix, work_free}
 use Rattle.rest_session.specs.Answered.{HasServed}
+use Rattle.rest_session.specs.Heals.{is_heal}
+use Rattle.rest_session.specs.Pieces.{IsPiece, Piece, in_order}
 use Rattle.rest_session.specs.declared.session.LinkEnd.{LinkEnd}
 use Rattle.turn_book.specs.Rule.{once_below, times}
 use Rattle.live_service.specs.Asked.{ServingAsked}
 use Rattle.live_service.specs.Closing.{HasFronted}
 use Rattle.mover_workers.specs.Close.{HasClosed, IsClosed}
-use Rattle.live_service.specs.Fronts.{HasAnswered, HasServedNet, IsFront, IsLinkRun, LinkRun}
+use Rattle.live_service.specs.Boards.{BoardCallerView, BoardPass, board_seen}
+use Rattle.live_service.specs.Fronts.{HasAnswered, HasServedLinks, IsFront, IsLinkRun, LinkRun}
 use Rattle.live_service.specs.Live.{AreAllOf, IsShared}
-use Rattle.live_service.specs.Views.{FrontTold, TeamView}
+use Rattle.live_service.specs.Views.{FrontTold, ServedView, TeamView}
 use Rattle.live_service.specs.declared.front.FrontEnd.{FrontEnd}
 use Rattle.live_service.specs.declared.front.FrontEnd.TheVariants as front
 use Rattle.live_service.specs.Workers.{IsMover, IsPlanner, Mover, Pass, Planner, shares_of}
@@ -137,32 +146,42 @@ module _ (bad : Event → Bool) (spared : IsSpared bad) (file : Meaning) where
       let k = known_by_pass file p.back in
       own_free bad p.given p.back h.planned.made h.fresh h.planned.own (units_free bad _ _ (plan_unit_free bad spared k.rules k.seen) (λ m c i. plan_step_free bad spared k.rules k.seen (last_of p.end) m i.0) h.planned.made h.planned.copies h.planned.is)
 
-module _ (file : Meaning) where
-  pub served_open : (v w : Pass) (k l : Copies) (left old new : Option (List ℕ)) (end : LinkEnd) → v.mine ≡ [] → HasServed (known_by_pass file v) (known_by_pass file w) k l left old new end → AreFreeAt is_close w.mine
-  served_open v w k l left old new end fresh h = own_free is_close v w h.made fresh h.own (subst (AreFree is_close) (sym h.is.are.made_is) (pieces_open _ w.seen h.is.pieces h.is.are.are))
+-- a link sees a board just where requests are reviewed
+seen_some : (b : Bool) (p : BoardPass) → is_some (board_seen b p) ≡ b
+seen_some true p = refl
+seen_some false p = refl
 
-  pub movers_open : (ms : List Mover) → AllByRecursion (IsMover file) ms → AreFreeAt is_close (shares_of (map (λ m. m.back) ms))
-  movers_open [] h = tt
-  movers_open (m ∷ ms) h = both_at is_close (shares_of (map (λ x. x.back) ms)) m.back.mine (movers_open ms h.1) (mover_free is_close close_spared file m h.0)
+module _ (file : Meaning) (bad : Event → Bool) (spared : IsSpared bad) (reviews : Bool) (pieces_free : (r : Rules) (s : List Event) (ps : List Piece) → AllByRecursion (IsPiece reviews r s) ps → AreFree bad (in_order (λ p. p.made) ps)) where
+  served_free : (v w : Pass) (x y : BoardPass) (k l : Copies) (left old new : Option (List ℕ)) (end : LinkEnd) → v.mine ≡ [] → HasServed (known_by_pass file v) (known_by_pass file w) (board_seen reviews x) (board_seen reviews y) k l left old new end → AreFreeAt bad w.mine
+  served_free v w x y k l left old new end fresh h =
+      let r = turn_rules file in
+      let are : AllByRecursion (IsPiece reviews r w.seen) h.made.is.pieces = subst (λ (b : Bool). AllByRecursion (IsPiece b r w.seen) h.made.is.pieces) (seen_some reviews x) h.made.is.are.are in
+      own_free bad v w h.made.made fresh h.made.own (subst (AreFree bad) (sym h.made.is.are.made_is) (pieces_free r w.seen h.made.is.pieces are))
 
-  pub planners_open : (ps : List Planner) → AllByRecursion (IsPlanner file) ps → AreFreeAt is_close (shares_of (map (λ p. p.back) ps))
-  planners_open [] h = tt
-  planners_open (p ∷ ps) h = both_at is_close (shares_of (map (λ x. x.back) ps)) p.back.mine (planners_open ps h.1) (planner_free is_close close_spared file p h.0)
+  pub movers_free : (ms : List Mover) → AllByRecursion (IsMover file) ms → AreFreeAt bad (shares_of (map (λ m. m.back) ms))
+  movers_free [] h = tt
+  movers_free (m ∷ ms) h = both_at bad (shares_of (map (λ x. x.back) ms)) m.back.mine (movers_free ms h.1) (mover_free bad spared file m h.0)
 
-  links_open : (rs : List LinkRun) → AllByRecursion (IsLinkRun file) rs → AreFreeAt is_close (shares_of (map (λ r. r.back) rs))
-  links_open [] h = tt
-  links_open (r ∷ rs) h = both_at is_close (shares_of (map (λ x. x.back) rs)) r.back.mine (links_open rs h.1) (served_open r.given r.back r.old r.new r.before.left r.before.written r.after.written r.end h.0.fresh h.0.answered)
+  pub planners_free : (ps : List Planner) → AllByRecursion (IsPlanner file) ps → AreFreeAt bad (shares_of (map (λ p. p.back) ps))
+  planners_free [] h = tt
+  planners_free (p ∷ ps) h = both_at bad (shares_of (map (λ x. x.back) ps)) p.back.mine (planners_free ps h.1) (planner_free bad spared file p h.0)
 
-  net_open : (f g : FrontTold) (old new : List Copies) (v w : Pass) → v.mine ≡ [] → HasServedNet file f g old new v w → AreFreeAt is_close w.mine
-  net_open f g old new v w fresh h = subst (AreFreeAt is_close) (sym (h.served.shares.mine ∙ ap (λ (m : List (ℕ × Event)). m ++ shares_of (map (λ (r : LinkRun). r.back) h.served.runs)) fresh)) (links_open h.served.runs h.served.are)
+  links_free : (rs : List LinkRun) → AllByRecursion (IsLinkRun file reviews) rs → AreFreeAt bad (shares_of (map (λ r. r.back) rs))
+  links_free [] h = tt
+  links_free (r ∷ rs) h = both_at bad (shares_of (map (λ x. x.back) rs)) r.back.mine (links_free rs h.1) (served_free r.given r.back r.board_given r.board_back r.old r.new r.before.left r.before.written r.after.written r.end h.0.fresh h.0.answered)
 
-  pub answered_open : (asked : Option ServingAsked) (f g : FrontTold) (end : FrontEnd) (old new : List Copies) (v w : Pass) → v.mine ≡ [] → HasAnswered file asked f g end old new v w → AreFreeAt is_close w.mine
-  answered_open None f g (front.Console end) old new v w fresh h = served_open v w f.copier g.copier f.console.left f.console.written g.console.written end fresh h.0.answered
-  answered_open (Some n) f g front.Accepted old new v w fresh h = net_open f g old new v w fresh h.0
-  answered_open (Some n) f g front.ListenerFault old new v w fresh h = net_open f g old new v w fresh h.0
-  answered_open None f g front.Accepted old new v w fresh h = absurd h
-  answered_open None f g front.ListenerFault old new v w fresh h = absurd h
-  answered_open (Some n) f g (front.Console end) old new v w fresh h = absurd h
+  links_of_free : (told now : Option (List AcceptedLink)) (old new : List Copies) (links : List ServedView) (v w : Pass) (x y : BoardPass) → v.mine ≡ [] → HasServedLinks file reviews told now old new links v w x y → AreFreeAt bad w.mine
+  links_of_free told now old new links v w x y fresh h = subst (AreFreeAt bad) (sym (h.shares.mine ∙ ap (λ (m : List (ℕ × Event)). m ++ shares_of (map (λ (r : LinkRun). r.back) h.runs)) fresh)) (links_free h.runs h.are)
+
+  pub answered_free : (asked : Option ServingAsked) (d e : BoardCallerView) (f g : FrontTold) (end : FrontEnd) (old new : List Copies) (v w : Pass) → d.reviews ≡ reviews → v.mine ≡ [] → HasAnswered file asked d e f g end old new v w → AreFreeAt bad w.mine
+  answered_free None d e f g (front.Console end) old new v w same fresh h =
+      served_free v w d.pass e.pass f.copier g.copier f.console.left f.console.written g.console.written end fresh
+      (subst (λ (b : Bool). HasServed (known_by_pass file v) (known_by_pass file w) (board_seen b d.pass) (board_seen b e.pass) f.copier g.copier f.console.left f.console.written g.console.written end) same h.0.answered)
+  answered_free (Some n) d e f g front.Accepted old new v w same fresh h = links_of_free f.net.accepted g.net.accepted old new g.served v w d.pass e.pass fresh (subst (λ (b : Bool). HasServedLinks file b f.net.accepted g.net.accepted old new g.served v w d.pass e.pass) same h.0.served)
+  answered_free (Some n) d e f g front.ListenerFault old new v w same fresh h = links_of_free f.net.accepted g.net.accepted old new g.served v w d.pass e.pass fresh (subst (λ (b : Bool). HasServedLinks file b f.net.accepted g.net.accepted old new g.served v w d.pass e.pass) same h.0.served)
+  answered_free None d e f g front.Accepted old new v w same fresh h = absurd h
+  answered_free None d e f g front.ListenerFault old new v w same fresh h = absurd h
+  answered_free (Some n) d e f g (front.Console end) old new v w same fresh h = absurd h
 
 -- ---- a journal whose places are these
 
@@ -180,37 +199,69 @@ find_at x (p ∷ ps) h = elim (eqb_tells p.0 x) [
   | inr f ↦ let g = rw f.0 at h in let r = find_at x ps (omega (arith, g)) in (suc r.0, r.1, r.2, r.3)
 ]
 
-open_at : (mine : List (ℕ × Event)) (k : ℕ) (p : ℕ × Event) → AreFreeAt is_close mine → get_elem? mine k ≡ some p → IsFreeAt is_close p
-open_at [] k p a e = absurd cc
-open_at (q ∷ mine) zero p a e = let same : q ≡ p = (let h : some q ≡ some p = e in cc) in subst (IsFreeAt is_close) same a.0
-open_at (q ∷ mine) (suc k) p a e = open_at mine k p a.1 e
+free_at : (bad : Event → Bool) (mine : List (ℕ × Event)) (k : ℕ) (p : ℕ × Event) → AreFreeAt bad mine → get_elem? mine k ≡ some p → IsFreeAt bad p
+free_at bad [] k p a e = absurd cc
+free_at bad (q ∷ mine) zero p a e = let same : q ≡ p = (let h : some q ≡ some p = e in cc) in subst (IsFreeAt bad) same a.0
+free_at bad (q ∷ mine) (suc k) p a e = free_at bad mine k p a.1 e
 
-all_open : (journal : List Event) → ((x : ℕ) (e : Event) → slice_get journal x ≡ Some e → is_close e ≡ false) → list_any is_close journal ≡ false
-all_open [] f = refl
-all_open (e ∷ es) f = let first : is_close e ≡ false = f 0 e refl in rw first (all_open es (λ x. f (suc x)))
+none_at : (bad : Event → Bool) (journal : List Event) → ((x : ℕ) (e : Event) → slice_get journal x ≡ Some e → bad e ≡ false) → list_any bad journal ≡ false
+none_at bad [] f = refl
+none_at bad (e ∷ es) f = let first : bad e ≡ false = f 0 e refl in rw first (none_at bad es (λ x. f (suc x)))
 
-pub journal_open : (journal : List Event) (mine : List (ℕ × Event)) → AreAllOf journal mine → AreFreeAt is_close mine → list_any is_close journal ≡ false
-journal_open journal mine all free = all_open journal (λ x e at.
+pub journal_free : (bad : Event → Bool) (journal : List Event) (mine : List (ℕ × Event)) → AreAllOf journal mine → AreFreeAt bad mine → list_any bad journal ≡ false
+journal_free bad journal mine all free = none_at bad journal (λ x e at.
     let there : 0 < times x mine = (let once = seen_once x (length journal) (slice_get_within journal x e at) in let is = all.each_once x in omega (arith, once, is)) in
     let found = find_at x mine there in
     let stands : slice_get journal x ≡ Some found.1.1 = subst (λ (n : ℕ). slice_get journal n ≡ Some found.1.1) found.3 (all.placed found.0 found.1 found.2) in
     let same : found.1.1 ≡ e = (let h : Some found.1.1 ≡ Some e = sym stands ∙ at in cc) in
-    subst (λ (y : Event). is_close y ≡ false) same (open_at mine found.0 found.1 free found.2))
+    subst (λ (y : Event). bad y ≡ false) same (free_at bad mine found.0 found.1 free found.2))
+
+-- behind them, those of a drain
+none_behind : (bad : Event → Bool) (v : Bool) (a b : List Event) → (v || list_any bad a) ≡ false → (list_any bad a ≡ false → list_any bad b ≡ false) → (v || list_any bad b) ≡ false
+none_behind bad true a b h f = h
+none_behind bad false a b h f = f h
+
+none_in_both : (bad : Event → Bool) (a b : List Event) → list_any bad a ≡ false → list_any bad b ≡ false → list_any bad (a ++ b) ≡ false
+none_in_both bad [] b p q = q
+none_in_both bad (x ∷ a) b p q = none_behind bad (bad x) a (a ++ b) p (λ h. none_in_both bad a b h q)
+
+pub drained_none : (bad : Event → Bool) → IsSpared bad → {A : Type 0} (b c : BookView A) (k l : Copies) (end : DrainEnd) → list_any bad b.journal ≡ false → HasDrainedAlone (known_by_owner b) (known_by_owner c) k l end → list_any bad c.journal ≡ false
+drained_none bad spared b c k l end none h =
+    let rest = h.longer.0 in
+    let made : h.made ≡ entries_from b.journal rest = made_is b.journal c.journal rest h.made h.longer.1 h.own in
+    let free : AreFree bad (entries_from b.journal rest) = subst (AreFree bad) made (drained_free bad spared (core_rules b.file) c.journal end h.made h.copies h.is.0) in
+    subst (λ (j : List Event). list_any bad j ≡ false) h.longer.1 (none_in_both bad b.journal rest none (none_has bad b.journal rest free))
 
 -- so a front whose Close wasn't taken is none: it asked the only one
-module _ {A : Type 0} (faults : A → ℕ) (asked : Option ServingAsked) (f g : FrontTold) (end : FrontEnd) (b c : BookView A) (s t : TeamView) (movers planners : ℕ) where
-  front_closes : (h : IsShared faults (λ xs ys. HasFronted (HasAnswered b.file asked f g end xs ys)) b c s t movers planners) → IsClosed h.run.run.did.served h.run.run.over → HasClosed h.run.run.did.served h.run.run.over
-  front_closes h (inl closed) = closed
-  front_closes h (inr none) =
+module _ {A : Type 0} (faults : A → ℕ) (asked : Option ServingAsked) (d e : BoardCallerView) (f g : FrontTold) (end : FrontEnd) (b c : BookView A) (s t : TeamView) (movers planners : ℕ) (h : IsShared faults (λ xs ys. HasFronted (HasAnswered b.file asked d e f g end xs ys)) b c s t movers planners) where
+  -- no entry is of a kind that neither the requests nor the workers ask, nor the front itself
+  none_shared : (bad : Event → Bool) (spared : IsSpared bad) (pieces_free : (r : Rules) (k : List Event) (ps : List Piece) → AllByRecursion (IsPiece d.reviews r k) ps → AreFree bad (in_order (λ p. p.made) ps))
+      → (AreFreeAt bad h.run.run.did.served.mine → AreFreeAt bad h.run.run.over.mine) → list_any bad c.journal ≡ false
+  none_shared bad spared pieces_free close =
       let r = h.run.run in
       let fresh : r.begun.mine ≡ [] = r.same ∙ h.fresh in
-      let served : AreFreeAt is_close r.over.mine = subst (AreFreeAt is_close) (sym none.mine) (answered_open b.file asked f g end r.others_old r.others_new r.begun r.did.served fresh r.did.answered) in
-      let moved : AreFreeAt is_close h.run.between.mine = subst (AreFreeAt is_close) (sym r.movers.shares.mine) (both_at is_close r.over.mine _ served (movers_open b.file r.movers.movers r.movers.are)) in
-      let all : AreFreeAt is_close h.back.mine = subst (AreFreeAt is_close) (sym h.run.planners.shares.mine) (both_at is_close h.run.between.mine _ moved (planners_open b.file h.run.planners.planners h.run.planners.are)) in
-      absurd (let one = journal_open c.journal h.back.mine h.shares all in let other = is_closed faults (HasAnswered b.file asked f g end) b c s t movers planners h in (let f : false ≡ true = sym one ∙ other in cc))
+      let served : AreFreeAt bad r.over.mine = close (answered_free b.file bad spared d.reviews pieces_free asked d e f g end r.others_old r.others_new r.begun r.did.served refl fresh r.did.answered) in
+      let moved : AreFreeAt bad h.run.between.mine = subst (AreFreeAt bad) (sym r.movers.shares.mine) (both_at bad r.over.mine _ served (movers_free b.file bad spared d.reviews pieces_free r.movers.movers r.movers.are)) in
+      let all : AreFreeAt bad h.back.mine = subst (AreFreeAt bad) (sym h.run.planners.shares.mine) (both_at bad h.run.between.mine _ moved (planners_free b.file bad spared d.reviews pieces_free h.run.planners.planners h.run.planners.are)) in
+      journal_free bad c.journal h.back.mine h.shares all
 
-  pub closes_once : IsShared faults (λ xs ys. HasFronted (HasAnswered b.file asked f g end xs ys)) b c s t movers planners → IsShared faults (λ xs ys. IsFront (HasAnswered b.file asked f g end xs ys)) b c s t movers planners
-  closes_once h = record {
+  front_closes : IsClosed h.run.run.did.served h.run.run.over → HasClosed h.run.run.did.served h.run.run.over
+  front_closes (inl closed) = closed
+  front_closes (inr none) = absurd (
+      let one = none_shared is_close close_spared (λ r k ps. pieces_open r k d.reviews ps) (λ free. subst (AreFreeAt is_close) (sym none.mine) free) in
+      let other = is_closed faults (HasAnswered b.file asked d e f g end) b c s t movers planners h in
+      (let x : false ≡ true = sym one ∙ other in cc))
+
+  -- nor a fix, where requests are reviewed
+  no_fix_behind : IsClosed h.run.run.did.served h.run.run.over → AreFreeAt is_heal h.run.run.did.served.mine → AreFreeAt is_heal h.run.run.over.mine
+  no_fix_behind (inl closed) free = subst (AreFreeAt is_heal) (sym closed.mine) (both_at is_heal h.run.run.did.served.mine _ free (refl, tt))
+  no_fix_behind (inr none) free = subst (AreFreeAt is_heal) (sym none.mine) free
+
+  pub unhealed : d.reviews ≡ true → list_any is_heal c.journal ≡ false
+  unhealed reviewed = none_shared is_heal heal_spared (λ r k ps are. reviewed_no_fix r k ps (subst (λ (x : Bool). AllByRecursion (IsPiece x r k) ps) reviewed are)) (no_fix_behind h.run.run.did.closed)
+
+  pub closes_once : IsShared faults (λ xs ys. IsFront (HasAnswered b.file asked d e f g end xs ys)) b c s t movers planners
+  closes_once = record {
     given = h.given;
     fresh = h.fresh;
     back = h.back;
@@ -222,7 +273,7 @@ module _ {A : Type 0} (faults : A → ℕ) (asked : Option ServingAsked) (f g : 
         over = h.run.run.over;
         others_old = h.run.run.others_old;
         others_new = h.run.run.others_new;
-        did = record { served = h.run.run.did.served; placed = h.run.run.did.placed; answered = h.run.run.did.answered; closed = front_closes h h.run.run.did.closed };
+        did = record { served = h.run.run.did.served; placed = h.run.run.did.placed; answered = h.run.run.did.answered; closed = front_closes h.run.run.did.closed };
         movers = h.run.run.movers;
       };
       planners = h.run.planners;

@@ -1,7 +1,8 @@
 -- How many links are asked for, and what they, the movers and the planners need.
-use Rattle.std.specs.Prelude.{◌≡◌, ◌≤◌, ◌<◌, ◌+◌, ℕ, List, [], length, Option, Some, None, option_map, string_bytes}
+use Rattle.std.specs.Prelude.{◌≡◌, ◌≤◌, ◌<◌, ◌+◌, ℕ, Bool, List, [], length, Option, Some, None, option_map, string_bytes}
 use Rattle.live_service.specs.Views.{ServiceView, TeamView}
 use Rattle.live_service.specs.declared.links.Serving.{Serving}
+use Rattle.live_service.specs.declared.live.Crew.{Crew}
 
 -- links that are asked for: so many, accepted at this address
 pub record ServingAsked : Type 0 where
@@ -12,24 +13,38 @@ pub record ServingAsked : Type 0 where
 abbrev pub serving_told : Option Serving → Option ServingAsked
 serving_told serving = option_map (λ s. record { address = string_bytes s.address; links = s.links }) serving
 
+-- who works over a book: so many movers and planners, and the links that are served. Without links the requests are those of the console.
+-- They may be reviewed
+pub record CrewAsked : Type 0 where
+  pub movers : ℕ
+  pub planners : ℕ
+  pub serving : Option ServingAsked
+  pub reviews : Bool
+
+-- the same as a value of the program
+abbrev pub crew_told : Crew → CrewAsked
+crew_told crew = record { movers = crew.movers; planners = crew.planners; serving = serving_told crew.serving; reviews = crew.reviews }
+
 -- as many copiers and places are needed
 abbrev pub links_of : Option Serving → ℕ
 links_of None = 0
 links_of (Some s) = s.links
 
--- a copier, a part and a place for each of so many links, beside those of others
-pub record HasSpace (s : ServiceView) (had others links : ℕ) : Type 0 where
+-- a copier, a part of the book's turn and of the board's, and a place for each of so many links, beside those of others
+pub record HasSpace (s : ServiceView) (had on_board others links : ℕ) : Type 0 where
   pub copiers : others + links ≤ length s.copiers
   pub room : length s.copiers ≤ s.room
   pub parts : others + links < had
+  pub board_parts : links < on_board
   pub none : s.served ≡ []
   pub places : links ≤ s.places
 
 -- the same for so many links, movers and planners, and a place for each loop's end
-pub record IsReady (t : TeamView) (had movers planners links : ℕ) : Type 0 where
+pub record IsReady (t : TeamView) (had on_board movers planners links : ℕ) : Type 0 where
   pub copiers : movers + links ≤ length t.front.service.copiers
   pub room : length t.front.service.copiers ≤ t.front.service.room
   pub parts : planners + (movers + links) < had
+  pub board_parts : links < on_board
   pub none : t.front.service.served ≡ []
   pub places : links ≤ t.front.service.places
   pub no_mover : t.movers ≡ []

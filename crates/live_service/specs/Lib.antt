@@ -1,8 +1,11 @@
 pub mod Views
+pub mod Boards
+pub mod Since
 pub mod Workers
 pub mod Fronts
 pub mod Closing
 pub mod Asked
 pub mod Runs
 pub mod Live
+pub mod Shared
 pub mod Heals

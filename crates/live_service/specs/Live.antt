@@ -1,5 +1,6 @@
 -- A live service: requests, planners and movers beside one another, over one book.
-use Rattle.std.specs.Prelude.{◌≡◌, ◌≤◌, ℕ, true, List, [], length, Option}
+use Rattle.std.specs.Prelude.{◌≡◌, ◌≤◌, ℕ, Bool, true, false, List, [], length}
+use Rattle.std.specs.List.{list_any}
 use mathlib.Core.List.{IsPrefix}
 use Rattle.cc_base.specs.Outside.{HasRisen}
 use Rattle.control_core.specs.Books.{BookView, IsSince}
@@ -11,14 +12,17 @@ use Rattle.mover_rounds.specs.Owned.{known_by_owner}
 use Rattle.mover_rounds.specs.declared.drains.DrainEnd.{DrainEnd}
 use Rattle.mover_rounds.specs.declared.drains.DrainEnd.TheVariants as drain
 use Rattle.turn_book.specs.Rule.{ArePlaced, once_below, times}
-use Rattle.live_service.specs.Asked.{ServingAsked}
+use Rattle.rest_session.specs.Heals.{is_heal}
+use Rattle.review_board.specs.declared.events.BoardEvent.{BoardEvent}
+use Rattle.live_service.specs.Asked.{CrewAsked}
+use Rattle.live_service.specs.Boards.{BoardCallerView}
 use Rattle.live_service.specs.Fronts.{HasAnswered, IsFront}
 use Rattle.live_service.specs.Views.{FrontView, TeamView, told_of}
 use Rattle.live_service.specs.Workers.{HasRunAll, Pass}
 use Rattle.live_service.specs.declared.front.FrontEnd.{FrontEnd}
 
 -- these entries, each at its place, are just those of the journal
-pub record AreAllOf (journal : List Event) (mine : List (ℕ × Event)) : Type 0 where
+pub record AreAllOf {E : Type 0} (journal : List E) (mine : List (ℕ × E)) : Type 0 where
   pub each_once : (x : ℕ) → times x mine ≡ once_below x (length journal)
   pub placed : ArePlaced journal mine
 
@@ -41,13 +45,25 @@ pub record IsBehind {A : Type 0} (faults : A → ℕ) (b c : BookView A) (k l : 
   pub cause : IsDrainCause (known_by_owner b) (known_by_owner c) end
   pub risen : (number : ℕ) → end ≡ drain.AdminFault number → HasRisen (faults b.admin) (faults c.admin)
 
+-- the journal of a board that was empty is now what this caller asked, before and after: each place of it is in just one of the shares of those that asked it
+pub record IsBoardOf (reviews : Bool) (journal : List BoardEvent) (d e : BoardCallerView) : Type 0 where
+  pub reviewed : d.reviews ≡ reviews
+  pub fresh : d.pass.mine ≡ []
+  pub shares : AreAllOf journal e.pass.mine
+  pub saw : IsPrefix e.pass.seen journal
+
 -- a live service: what was asked was answered, and then Close was asked, which no other actor did; behind the shares of all come the
--- rounds of a drain over the settled book
-pub record IsLive {A : Type 0} (faults : A → ℕ) (asked : Option ServingAsked) (b c : BookView A) (s t : TeamView) (end : FrontEnd) (drain : DrainEnd) (movers planners : ℕ) : Type 0 where
+-- rounds of a drain over the settled book. What was asked of the board is its journal, and no fix stands in the book's where requests
+-- are reviewed
+pub record IsLive {A : Type 0} (faults : A → ℕ) (crew : CrewAsked) (board : List BoardEvent) (b c : BookView A) (s t : TeamView) (end : FrontEnd) (drain : DrainEnd) : Type 0 where
+  pub board_given : BoardCallerView
+  pub board_back : BoardCallerView
+  pub board_is : IsBoardOf crew.reviews board board_given board_back
+  pub unhealed : crew.reviews ≡ true → list_any is_heal c.journal ≡ false
   pub closed : BookView A
   pub between : TeamView
   pub between_is : between ≡ record t { front = record t.front { copier = between.front.copier } }
-  pub shared : IsShared faults (λ xs ys. IsFront (HasAnswered b.file asked (told_of s.front) (told_of between.front) end xs ys)) b closed s between movers planners
+  pub shared : IsShared faults (λ xs ys. IsFront (HasAnswered b.file crew.serving board_given board_back (told_of s.front) (told_of between.front) end xs ys)) b closed s between crew.movers crew.planners
   pub settled : BookView A
   pub settled_is : settled ≡ record closed { settled = true }
   pub behind : IsBehind faults settled c between.front.copier t.front.copier drain

@@ -46,21 +46,21 @@ pub record IsPlanner (file : Meaning) (p : Planner) : Type 0 where
   pub no_admin : CallsNoAdmin p.end
 
 -- the entries of passes with their places, the last pass first
-abbrev pub shares_of : List Pass → List (ℕ × Event)
+abbrev pub shares_of : {O E : Type 0} → List (PassView O E) → List (ℕ × E)
 shares_of [] = []
 shares_of (p ∷ ps) = shares_of ps ++ p.mine
 
 -- what each of these passes saw begins the history
-abbrev pub AllSaw : List Event → List Pass → Type 0
+abbrev pub AllSaw : {O E : Type 0} → List E → List (PassView O E) → Type 0
 AllSaw history passes = AllByRecursion (λ p. IsPrefix p.seen history) passes
 
--- each of these passes was told no fault of the admin behind this one
-abbrev pub AllTold : ℕ → List Pass → Type 0
+-- each of these passes was told no later fault of the outside than this one
+abbrev pub AllTold : {O E : Type 0} → ℕ → List (PassView O E) → Type 0
 AllTold last passes = AllByRecursion (λ p. p.last ≤ last) passes
 
 -- a pass that was behind a front's has its entries, and then those of these passes, each of which saw no more than it, nor was told a
--- later fault of the admin
-pub record HasShares (front back : Pass) (passes : List Pass) : Type 0 where
+-- later fault of the outside
+pub record HasShares {O E : Type 0} (front back : PassView O E) (passes : List (PassView O E)) : Type 0 where
   pub mine : back.mine ≡ front.mine ++ shares_of passes
   pub saw : AllSaw back.seen passes
   pub longer : IsPrefix front.seen back.seen

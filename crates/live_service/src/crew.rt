@@ -4,6 +4,7 @@ ghost use Rattle.live_service.specs.Runs.{HasRunMovers, HasRunWorkers};
 ghost use Rattle.mover_workers.specs.Callers.{IsSince, known_by_caller};
 ghost use Rattle.mover_workers.specs.Loops.{CallsNoAdmin, HasPlanned};
 
+use crate::boards::Callers;
 use crate::front::{FrontEnd, serve_front};
 use crate::links::Serving;
 use crate::parties::{Parties, Team};
@@ -16,26 +17,27 @@ use std::thread::{Threads, join};
 fn without_workers<'a, P: Parties, R: Threads + Wait + Sync>(
     rt: &R,
     alloc: Global,
-    caller: Caller<'a, R, P::Gate>,
+    callers: Callers<'a, R, P::Gate>,
     team: Team<P>,
     serving: Option<Serving>,
-) -> (Caller<'a, R, P::Gate>, Team<P>, FrontEnd)
-    requires ready { IsReady team caller.pass.parts 0 0 (links_of serving) }
-    ensures run { HasRunMovers (serving_told serving) caller.entry result.0 team result.1 result.2
-        0 }
+) -> (Callers<'a, R, P::Gate>, Team<P>, FrontEnd)
+    requires ready { IsReady team callers.book.pass.parts callers.board.pass.parts 0 0
+        (links_of serving) }
+    ensures run { HasRunMovers (serving_told serving) callers.entry.book result.0.book
+        callers.entry.board result.0.board team result.1 result.2 0 }
 {
     let Team {
         front,
         movers,
         planners,
     } = team;
-    let (caller, front, end) = serve_front(rt, alloc, caller, front, serving);
+    let (callers, front, end) = serve_front(rt, alloc, callers, front, serving);
     let team = Team {
         front,
         movers,
         planners,
     };
-    (caller, team, end)
+    (callers, team, end)
 }
 
 // As many movers, each in a thread of its own with the next of the copiers, and a front in this
@@ -43,36 +45,38 @@ fn without_workers<'a, P: Parties, R: Threads + Wait + Sync>(
 fn with_movers<'a, P: Parties, R: Threads + Wait + Sync>(
     rt: &R,
     alloc: Global,
-    mut caller: Caller<'a, R, P::Gate>,
+    mut callers: Callers<'a, R, P::Gate>,
     mut team: Team<P>,
     movers: u32,
     serving: Option<Serving>,
-) -> (Caller<'a, R, P::Gate>, Team<P>, FrontEnd)
-    requires ready { IsReady team caller.pass.parts movers 0 (links_of serving) }
-    ensures run { HasRunMovers (serving_told serving) caller.entry result.0 team result.1 result.2
-        movers }
+) -> (Callers<'a, R, P::Gate>, Team<P>, FrontEnd)
+    requires ready { IsReady team callers.book.pass.parts callers.board.pass.parts movers 0
+        (links_of serving) }
+    ensures run { HasRunMovers (serving_told serving) callers.entry.book result.0.book
+        callers.entry.board result.0.board team result.1 result.2 movers }
 {
     if movers == 0 {
-        return without_workers(rt, alloc, caller, team, serving);
+        return without_workers(rt, alloc, callers, team, serving);
     }
     let fewer = movers - 1;
     let mut copier = team.take_copier();
-    let mut own = caller.split();
-    let ((back, copier, ended), (mut caller, mut team, end)) = join(
+    let mut own = callers.book.split();
+    let ((back, copier, ended), (mut callers, mut team, end)) = join(
         rt,
         move || {
             let end = make_moves(rt, alloc, &mut own, &mut copier);
             (own, copier, end)
         },
-        move || -> (Caller<R, P::Gate>, Team<P>, FrontEnd)
-            requires { IsReady team caller.pass.parts fewer 0 (links_of serving) }
-            ensures { HasRunMovers (serving_told serving) caller.entry result.0 team result.1
-                result.2 fewer }
-        { with_movers(rt, alloc, caller, team, fewer, serving) },
+        move || -> (Callers<R, P::Gate>, Team<P>, FrontEnd)
+            requires { IsReady team callers.book.pass.parts callers.board.pass.parts fewer 0
+                (links_of serving) }
+            ensures { HasRunMovers (serving_told serving) callers.entry.book result.0.book
+                callers.entry.board result.0.board team result.1 result.2 fewer }
+        { with_movers(rt, alloc, callers, team, fewer, serving) },
     );
-    caller.join(back);
+    callers.book.join(back);
     team.note_mover(copier, ended);
-    (caller, team, end)
+    (callers, team, end)
 }
 
 /// As many planners and movers, each in a thread of its own, and a front in this one. The movers
@@ -81,22 +85,23 @@ fn with_movers<'a, P: Parties, R: Threads + Wait + Sync>(
 pub fn with_workers<'a, P: Parties, R: Threads + Wait + Sync>(
     rt: &R,
     alloc: Global,
-    mut caller: Caller<'a, R, P::Gate>,
+    mut callers: Callers<'a, R, P::Gate>,
     team: Team<P>,
     movers: u32,
     planners: u32,
     serving: Option<Serving>,
-) -> (Caller<'a, R, P::Gate>, Team<P>, FrontEnd)
-    requires ready { IsReady team caller.pass.parts movers planners (links_of serving) }
-    ensures run { HasRunWorkers (serving_told serving) caller.entry result.0 team result.1 result.2
-        movers planners }
+) -> (Callers<'a, R, P::Gate>, Team<P>, FrontEnd)
+    requires ready { IsReady team callers.book.pass.parts callers.board.pass.parts movers planners
+        (links_of serving) }
+    ensures run { HasRunWorkers (serving_told serving) callers.entry.book result.0.book
+        callers.entry.board result.0.board team result.1 result.2 movers planners }
 {
     if planners == 0 {
-        return with_movers(rt, alloc, caller, team, movers, serving);
+        return with_movers(rt, alloc, callers, team, movers, serving);
     }
     let fewer = planners - 1;
-    let mut own = caller.split();
-    let ((back, ended), (mut caller, mut team, end)) = join(
+    let mut own = callers.book.split();
+    let ((back, ended), (mut callers, mut team, end)) = join(
         rt,
         move || -> (Caller<R, P::Gate>, LoopEnd)
             ensures { IsSince own.entry result.0
@@ -106,13 +111,14 @@ pub fn with_workers<'a, P: Parties, R: Threads + Wait + Sync>(
             let end = make_plans(rt, alloc, &mut own);
             (own, end)
         },
-        move || -> (Caller<R, P::Gate>, Team<P>, FrontEnd)
-            requires { IsReady team caller.pass.parts movers fewer (links_of serving) }
-            ensures { HasRunWorkers (serving_told serving) caller.entry result.0 team result.1
-                result.2 movers fewer }
-        { with_workers(rt, alloc, caller, team, movers, fewer, serving) },
+        move || -> (Callers<R, P::Gate>, Team<P>, FrontEnd)
+            requires { IsReady team callers.book.pass.parts callers.board.pass.parts movers fewer
+                (links_of serving) }
+            ensures { HasRunWorkers (serving_told serving) callers.entry.book result.0.book
+                callers.entry.board result.0.board team result.1 result.2 movers fewer }
+        { with_workers(rt, alloc, callers, team, movers, fewer, serving) },
     );
-    caller.join(back);
+    callers.book.join(back);
     team.note_planner(ended);
-    (caller, team, end)
+    (callers, team, end)
 }

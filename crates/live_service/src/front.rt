@@ -2,10 +2,10 @@
 ghost use Rattle.live_service.specs.Asked.{HasSpace, links_of, serving_told};
 ghost use Rattle.live_service.specs.Runs.{HasServed};
 
+use crate::boards::Callers;
 use crate::links::{Serving, serve_links};
 use crate::parties::{Front, Parties};
 use cc_base::Failed;
-use mover_workers::Caller;
 use rest_session::{LinkEnd, serve};
 use std::alloc::Global;
 use std::sync::Wait;
@@ -18,7 +18,8 @@ pub enum FrontEnd {
     Console(LinkEnd),
     /// As many links as asked were accepted, and have ended.
     Accepted,
-    /// A call of the listener failed. The links that were accepted before have ended.
+    /// The listener couldn't listen, or failed to accept 16 times in a row. The links that were
+    /// accepted before have ended.
     ListenerFault,
 }
 
@@ -27,38 +28,42 @@ pub enum FrontEnd {
 pub fn serve_front<'a, P: Parties, R: Threads + Wait + Sync>(
     rt: &R,
     alloc: Global,
-    mut caller: Caller<'a, R, P::Gate>,
+    callers: Callers<'a, R, P::Gate>,
     mut front: Front<P>,
     serving: Option<Serving>,
-) -> (Caller<'a, R, P::Gate>, Front<P>, FrontEnd)
-    requires space { HasSpace front.service caller.pass.parts 0 (links_of serving) }
-    ensures served { HasServed (serving_told serving) caller.entry result.0 front result.1 result.2 }
+) -> (Callers<'a, R, P::Gate>, Front<P>, FrontEnd)
+    requires space { HasSpace front.service callers.book.pass.parts callers.board.pass.parts 0
+        (links_of serving) }
+    ensures served { HasServed (serving_told serving) callers.entry.book result.0.book
+        callers.entry.board result.0.board front result.1 result.2 }
 {
     let Some(serving) = serving else {
+        let (mut book, mut board) = callers.into_parts();
         let end = serve(
             rt,
             alloc,
-            &mut caller,
+            &mut book,
+            &mut board,
             &mut front.copier,
             &mut front.console,
         );
-        caller.close();
-        return (caller, front, FrontEnd::Console(end));
+        book.close();
+        return (Callers { book, board }, front, FrontEnd::Console(end));
     };
     let Front {
         copier,
         console,
         service,
     } = front;
-    let (mut caller, service, end) = serve_links(rt, alloc, caller, service, &serving);
-    caller.close();
+    let (mut callers, service, end) = serve_links(rt, alloc, callers, service, &serving);
+    callers.book.close();
     let front = Front {
         copier,
         console,
         service,
     };
     match end {
-        Ok(()) => (caller, front, FrontEnd::Accepted),
-        Err(Failed) => (caller, front, FrontEnd::ListenerFault),
+        Ok(()) => (callers, front, FrontEnd::Accepted),
+        Err(Failed) => (callers, front, FrontEnd::ListenerFault),
     }
 }

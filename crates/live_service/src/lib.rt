@@ -2,6 +2,7 @@
 //! as whole turns.
 #![tactic(auto)]
 
+mod boards;
 mod crew;
 mod front;
 mod laws;
@@ -11,10 +12,11 @@ mod live;
 mod parties;
 mod service;
 
+pub use boards::{BoardCaller, Callers};
 pub use front::FrontEnd;
 pub use laws::workers_heal_nothing;
-pub use link::serve_link;
+pub use link::{serve_link, serve_reviewed};
 pub use links::Serving;
-pub use live::{Live, Unshared, run_live_service};
+pub use live::{Crew, Live, Unshared, run_live_service};
 pub use parties::{Front, Of, Parties, Team};
 pub use service::{Served, Service};

@@ -2,14 +2,20 @@
 ghost use Rattle.std.specs.Prelude.{◌≡◌, OnErr, OnOk, string_bytes};
 ghost use Rattle.cc_base.specs.Outside.{with_name};
 ghost use Rattle.live_service.specs.Asked.{HasSpace};
-ghost use Rattle.live_service.specs.Fronts.{HasAccepted, IsHeard};
+ghost use Rattle.mover_rounds.specs.Made.{copier_of};
+ghost use Rattle.mover_workers.specs.Callers.{IsSince, known_by_caller};
+ghost use Rattle.rest_session.specs.Answered.{HasServed};
+ghost use Rattle.live_service.specs.Boards.{IsBoardCallerSince, board_seen};
+ghost use Rattle.live_service.specs.Fronts.{HasAccepted, HasLinkCause, HasTried, IsUnheard};
+ghost use Rattle.live_service.specs.Views.{link_of};
 
+use crate::boards::{BoardCaller, Callers};
 use crate::service::{Served, Service};
 use cc_base::Failed;
 use cluster_gate::{Admin, Copier};
 use mover_workers::Caller;
-use net_links::Listener;
-use rest_session::serve;
+use net_links::{Connection, Listener};
+use rest_session::{LinkEnd, serve};
 use std::alloc::Global;
 use std::sync::Wait;
 use std::thread::{Threads, join};
@@ -20,6 +26,30 @@ pub struct Serving {
     /// `HOST:PORT`, as the listener reads it.
     pub address: String,
     pub links: u32,
+}
+
+// Answers the requests of a link until it ends, and closes it.
+fn serve_one<'a, A: Admin, K: Copier, C: Connection, R: Threads + Wait + Sync>(
+    rt: &R,
+    alloc: Global,
+    caller: &mut Caller<'a, R, A>,
+    board: &mut BoardCaller<'a, R>,
+    copier: &mut K,
+    link: &mut C,
+) -> LinkEnd
+    ensures since { IsSince caller.old caller.new }
+    ensures board_since { IsBoardCallerSince board.old board.new }
+    ensures served { HasServed (known_by_caller caller.old) (known_by_caller caller.new)
+        (board_seen board.old.reviews board.old.pass) (board_seen board.new.reviews board.new.pass)
+        (copier_of K.copies K.faults copier.old) (copier_of K.copies K.faults copier.new)
+        (C.left link.old) (C.written link.old) (C.written link.new) result }
+    ensures cause { HasLinkCause
+        (link_of C.left C.written C.Source.faults C.Sink.faults link.old)
+        (link_of C.left C.written C.Source.faults C.Sink.faults link.new) result }
+{
+    let end = serve(rt, alloc, caller, board, copier, link);
+    link.close();
+    end
 }
 
 // Accepts so many links, and answers the requests of each while it waits for the next: a thread
@@ -34,41 +64,45 @@ fn accept_links<
 >(
     rt: &R,
     alloc: Global,
-    mut caller: Caller<'a, R, A>,
+    mut callers: Callers<'a, R, A>,
     mut service: Service<K, N>,
     links: u32,
-) -> (Caller<'a, R, A>, Service<K, N>, Result<(), Failed>)
+) -> (Callers<'a, R, A>, Service<K, N>, Result<(), Failed>)
 where
     N::Conn: Send + Drop,
-    requires space { HasSpace service caller.pass.parts 0 links }
-    ensures accepted { HasAccepted caller.entry result.0 service result.1 links result.2 }
-    ensures heard { result.1.net.heard ≡ service.net.heard }
+    requires space { HasSpace service callers.book.pass.parts callers.board.pass.parts 0 links }
+    ensures accepted { HasAccepted callers.entry.book result.0.book callers.entry.board
+        result.0.board service result.1 links result.2 }
+    ensures tried { HasTried service result.1 result.2 }
 {
     if links == 0 {
-        return (caller, service, Ok(()));
+        return (callers, service, Ok(()));
     }
     let Ok(mut link) = service.accept() else {
-        return (caller, service, Err(Failed));
+        return (callers, service, Err(Failed));
     };
     let fewer = links - 1;
     let mut copier = service.take_copier();
-    let mut own = caller.split();
-    let ((mut caller, mut service, end), (back, copier, served)) = join(
+    let mut caller = callers.book.split();
+    let mut board = callers.board.split();
+    let ((mut callers, mut service, end), (caller, board, copier, served)) = join(
         rt,
-        move || -> (Caller<R, A>, Service<K, N>, Result<(), Failed>)
-            requires { HasSpace service caller.pass.parts 0 fewer }
-            ensures { HasAccepted caller.entry result.0 service result.1 fewer result.2
-                × (result.1.net.heard ≡ service.net.heard) }
-        { accept_links(rt, alloc, caller, service, fewer) },
+        move || -> (Callers<R, A>, Service<K, N>, Result<(), Failed>)
+            requires { HasSpace service callers.book.pass.parts callers.board.pass.parts 0 fewer }
+            ensures { HasAccepted callers.entry.book result.0.book callers.entry.board
+                result.0.board service result.1 fewer result.2
+                × HasTried service result.1 result.2 }
+        { accept_links(rt, alloc, callers, service, fewer) },
         move || {
-            let end = serve(rt, alloc, &mut own, &mut copier, &mut link);
-            (own, copier, Served { link, end })
+            let end = serve_one(rt, alloc, &mut caller, &mut board, &mut copier, &mut link);
+            (caller, board, copier, Served { link, end })
         },
     );
-    caller.join(back);
+    callers.book.join(caller);
+    callers.board.join(board);
     service.give_copier(copier);
     service.note(served);
-    (caller, service, end)
+    (callers, service, end)
 }
 
 /// Listens, and then accepts the links one after another. The requests of each are answered while
@@ -76,8 +110,8 @@ where
 ///
 /// # Errors
 ///
-/// `Failed` where a call of the listener failed. The links that were accepted before are served all
-/// the same.
+/// `Failed` where the listener couldn't listen, or where each of 16 calls in a row that accept
+/// failed. The links that were accepted before are served all the same.
 pub fn serve_links<
     'a,
     A: Admin + Send,
@@ -87,21 +121,23 @@ pub fn serve_links<
 >(
     rt: &R,
     alloc: Global,
-    caller: Caller<'a, R, A>,
+    callers: Callers<'a, R, A>,
     mut service: Service<K, N>,
     serving: &Serving,
-) -> (Caller<'a, R, A>, Service<K, N>, Result<(), Failed>)
+) -> (Callers<'a, R, A>, Service<K, N>, Result<(), Failed>)
 where
     N::Conn: Send + Drop,
-    requires space { HasSpace service caller.pass.parts 0 serving.now.links }
-    ensures accepted { HasAccepted caller.entry result.0 service result.1 serving.now.links
-        result.2 }
+    requires space { HasSpace service callers.book.pass.parts callers.board.pass.parts 0
+        serving.now.links }
+    ensures accepted { HasAccepted callers.entry.book result.0.book callers.entry.board
+        result.0.board service result.1 serving.now.links result.2 }
     ensures heard { OnOk result.2 (result.1.net.heard
         ≡ with_name service.net.heard (string_bytes serving.now.address)) }
-    ensures unheard { OnErr result.2 (IsHeard (string_bytes serving.now.address) service result.1) }
+    ensures unheard { OnErr result.2 (IsUnheard (string_bytes serving.now.address) service.net
+        result.1.net result.1.served) }
 {
     match service.listen(&serving.address) {
-        Ok(()) => accept_links(rt, alloc, caller, service, serving.links),
-        Err(failed) => (caller, service, Err(failed)),
+        Ok(()) => accept_links(rt, alloc, callers, service, serving.links),
+        Err(failed) => (callers, service, Err(failed)),
     }
 }

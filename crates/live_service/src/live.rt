@@ -6,10 +6,11 @@ ghost use Rattle.core_laws.specs.Events.{AreListsShown};
 ghost use Rattle.core_terms.specs.History.{AreLegal};
 ghost use Rattle.core_terms.specs.Sound.{IsSound};
 ghost use Rattle.exec_terms.specs.Machine.{lists_now};
-ghost use Rattle.live_service.specs.Asked.{IsReady, IsWhole, links_of, serving_told};
-ghost use Rattle.live_service.specs.Live.{IsLive, IsShared};
-ghost use Rattle.live_service.specs.Runs.{Fronted};
+ghost use Rattle.live_service.specs.Asked.{IsReady, IsWhole, crew_told, links_of};
+ghost use Rattle.live_service.specs.Live.{IsLive};
+ghost use Rattle.live_service.specs.Shared.{WasShared};
 
+use crate::boards::{BoardCaller, Callers};
 use crate::crew::with_workers;
 use crate::front::FrontEnd;
 use crate::links::Serving;
@@ -19,6 +20,7 @@ use core_laws::every_history;
 use mover_rounds::DrainEnd;
 use mover_workers::Caller;
 use rest_session::finish;
+use review_board::Board;
 use std::alloc::Global;
 use std::sync::Wait;
 use std::thread::Threads;
@@ -31,36 +33,77 @@ pub struct Unshared<P: Parties> {
     pub team: Team<P>,
 }
 
-// Shares a book that was just opened between a front, movers and planners.
+/// Who works over a book: so many movers and planners, and the links that are served. Without links
+/// the requests are those of the console.
+#[derive(Drop)]
+pub struct Crew {
+    pub movers: u32,
+    pub planners: u32,
+    pub serving: Option<Serving>,
+    /// What starts something is reviewed first.
+    pub reviews: bool,
+}
+
+// What comes of a book that was shared.
+#[derive(Drop)]
+struct Shared<P: Parties> {
+    book: Book<P::Gate>,
+    board: Board,
+    team: Team<P>,
+    end: FrontEnd,
+}
+
+// Shares a book that was just opened, and an empty board, between a front, movers and planners.
 fn share<P: Parties, R: Threads + Wait + Sync>(
     rt: &R,
     alloc: Global,
     book: Book<P::Gate>,
     team: Team<P>,
-    movers: u32,
-    planners: u32,
-    serving: Option<Serving>,
-) -> Result<(Book<P::Gate>, Team<P>, FrontEnd), Unshared<P>>
+    crew: Crew,
+) -> Result<Shared<P>, Unshared<P>>
     // Nothing was done before, and there is a copier, a part and a place for each.
     requires opened { book.journal ≡ [] }
-    requires ready { IsReady team 1048576 movers planners (links_of serving) }
+    requires ready { IsReady team 1048576 1048576 crew.movers crew.planners
+        (links_of crew.serving) }
     // What was done, and the copiers come back.
-    ensures shared { IfOk result (λ r. IsShared P.Gate.faults (Fronted book.file (serving_told serving)
-        team.front r.1.front r.2) book r.0 team r.1 movers planners) }
-    ensures back { IfOk result (λ r. IsWhole team.front.service r.1.front.service) }
+    ensures shared { IfOk result (λ r. WasShared P.Gate.faults (crew_told crew) r.board book r.book
+        team r.team r.end) }
+    ensures back { IfOk result (λ r. IsWhole team.front.service r.team.front.service) }
     // Out of memory, all is handed back.
     ensures handed_back { IfErr result (λ e. (e.book ≡ book) × (e.team ≡ team)) }
 {
+    let Ok((board_turn, board_pass)) = Turn::new(alloc, Board::new(alloc)) else {
+        return Err(Unshared { book, team });
+    };
     match Turn::new(alloc, book) {
         Ok((turn, pass)) => {
-            let caller = Caller::new(rt, &turn, pass);
-            let (caller, team, end) = with_workers(
-                rt, alloc, caller, team, movers, planners, serving,
+            let callers = Callers {
+                book: Caller::new(rt, &turn, pass),
+                board: BoardCaller::new(rt, &board_turn, board_pass, crew.reviews),
+            };
+            let (callers, team, end) = with_workers(
+                rt,
+                alloc,
+                callers,
+                team,
+                crew.movers,
+                crew.planners,
+                crew.serving,
             );
+            let (caller, board) = callers.into_parts();
             let pass = caller.into_pass();
-            Ok((turn.close(pass), team, end))
+            let board_pass = board.into_pass();
+            Ok(Shared {
+                book: turn.close(pass),
+                board: board_turn.close(board_pass),
+                team,
+                end,
+            })
         }
-        Err((_, book)) => Err(Unshared { book, team }),
+        Err((_, book)) => {
+            drop(board_turn.close(board_pass));
+            Err(Unshared { book, team })
+        }
     }
 }
 
@@ -68,6 +111,8 @@ fn share<P: Parties, R: Threads + Wait + Sync>(
 #[derive(Drop)]
 pub struct Live<P: Parties> {
     pub book: Book<P::Gate>,
+    /// The board on which requests were reviewed.
+    pub board: Board,
     /// The front, and how movers and planners ended.
     pub team: Team<P>,
     /// How the front ended.
@@ -77,7 +122,8 @@ pub struct Live<P: Parties> {
 }
 
 /// Answers the requests of the console, or those of the links that are asked for, over a book that
-/// was just opened, while movers and planners run beside them. The movers have the first of the
+/// was just opened, while movers and planners run beside them; where they are reviewed, over an
+/// empty board too. The movers have the first of the
 /// copiers and the links the next, and all come back in their order; the console has its own, which
 /// the drain has too. Then asks Close, waits for the workers to end, settles the book, and makes
 /// rounds until no task and no job is unfinished.
@@ -90,16 +136,15 @@ pub fn run_live_service<P: Parties, R: Threads + Wait + Sync>(
     alloc: Global,
     book: Book<P::Gate>,
     team: Team<P>,
-    movers: u32,
-    planners: u32,
-    serving: Option<Serving>,
+    crew: Crew,
 ) -> Result<Live<P>, Unshared<P>>
     // Nothing was done before, and there is a copier, a part and a place for each.
     requires opened { book.journal ≡ [] }
-    requires ready { IsReady team 1048576 movers planners (links_of serving) }
+    requires ready { IsReady team 1048576 1048576 crew.movers crew.planners
+        (links_of crew.serving) }
     // What was done, by whom, and with which copies and replies.
-    ensures live { IfOk result (λ r. IsLive P.Gate.faults (serving_told serving) book r.book
-        team r.team r.end r.drain movers planners) }
+    ensures live { IfOk result (λ r. IsLive P.Gate.faults (crew_told crew) r.board book r.book
+        team r.team r.end r.drain) }
     // The journal is a legal history of the book's file, whose lists the admin has.
     ensures file { IfOk result (λ r. r.book.file ≡ book.file) }
     ensures legal { IfOk result (λ r. AreLegal r.book.journal) }
@@ -119,7 +164,12 @@ pub fn run_live_service<P: Parties, R: Threads + Wait + Sync>(
     ensures handed_back { IfErr result (λ e. (e.book ≡ book) × (e.team ≡ team)) }
 {
     every_history();
-    let (mut book, team, end) = share(rt, alloc, book, team, movers, planners, serving)?;
+    let Shared {
+        mut book,
+        board,
+        team,
+        end,
+    } = share(rt, alloc, book, team, crew)?;
     book.settle();
     let Team {
         front,
@@ -141,6 +191,7 @@ pub fn run_live_service<P: Parties, R: Threads + Wait + Sync>(
     };
     Ok(Live {
         book,
+        board,
         team: Team {
             front,
             movers,

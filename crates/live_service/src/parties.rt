@@ -6,7 +6,7 @@ use crate::service::Service;
 use cc_base::Link;
 use cluster_gate::{Admin, Copier};
 use mover_workers::LoopEnd;
-use net_links::Listener;
+use net_links::{Connection, Listener};
 use std::marker::{Model, PhantomData};
 
 /// The types of those who take part: one name for the bounds of all.
@@ -18,7 +18,7 @@ pub trait Parties {
 
     type Console: Link + Drop;
     /// What the listener accepts.
-    type Conn: Link + Send + Drop;
+    type Conn: Connection + Send + Drop;
 
     type Net: Listener<Conn = Self::Conn> + Send + Drop;
 }

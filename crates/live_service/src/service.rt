@@ -1,7 +1,8 @@
 // The service of a listener.
 ghost use Rattle.std.specs.Prelude.{◌≡◌, ◌∷◌, ◌<◌, ◌≤◌, IfOk, OnErr, OnOk, length};
 ghost use Rattle.cc_base.specs.Outside.{HasCause, with_name};
-ghost use Rattle.mover_rounds.specs.Made.{copier_of};
+ghost use Rattle.mover_rounds.specs.Made.{HasRisenBy, copier_of};
+ghost use Rattle.live_service.specs.Fronts.{tries};
 ghost use Rattle.live_service.specs.Views.{link_of};
 ghost use Rattle.net_links.specs.Links.{IsFresh, with_link};
 
@@ -10,6 +11,9 @@ use cluster_gate::Copier;
 use net_links::Listener;
 use rest_session::LinkEnd;
 use std::marker::Model;
+
+// So many calls that accept may fail one after another.
+const TRIES: u32 = 16;
 
 /// A link that was served.
 #[derive(Drop)]
@@ -28,6 +32,33 @@ where
     pub listener: N,
     pub copiers: Vec<K>,
     pub served: Vec<Served<N::Conn>>,
+}
+
+// The next link of a listener, which is asked for it up to so many times.
+fn accept_from<N: Listener>(listener: &mut N) -> Result<N::Conn, Failed>
+    ensures later { N.faults listener.old ≤ N.faults listener.new }
+    ensures given_up { OnErr result
+        (HasRisenBy tries (N.faults listener.old) (N.faults listener.new)) }
+    ensures heard { N.heard listener.new ≡ N.heard listener.old }
+    ensures accepted { IfOk result
+        (λ link. N.accepted listener.new
+        ≡ with_link (N.accepted listener.old)
+        (record {
+          source_faults = N.Conn.Source.faults link;
+          sink_faults = N.Conn.Sink.faults link;
+          left = N.Conn.left link;
+        })) }
+    ensures fresh { IfOk result (λ link. IsFresh (N.Conn.written link)) }
+    ensures failed { OnErr result (N.accepted listener.new ≡ N.accepted listener.old) }
+{
+    let mut tried = 0;
+    while tried < TRIES {
+        if let Ok(link) = listener.accept() {
+            return Ok(link);
+        }
+        tried += 1;
+    }
+    Err(Failed)
 }
 
 impl<K: Copier, N: Listener> Model for Service<K, N>
@@ -72,13 +103,16 @@ where
         self.listener.listen(address)
     }
 
-    /// The next link. Nothing was written to it yet.
+    /// The next link. Nothing was written to it yet. A call of the listener that fails is made
+    /// again, up to 16 times in all.
     ///
     /// # Errors
     ///
-    /// `Failed` where the call fails. No link is accepted then.
+    /// `Failed` where each of the calls failed. No link is accepted then.
     pub fn accept(&mut self) -> Result<N::Conn, Failed>
-        ensures cause { HasCause self.old.net.faults self.new.net.faults result }
+        ensures later { self.old.net.faults ≤ self.new.net.faults }
+        ensures given_up { OnErr result
+            (HasRisenBy tries self.old.net.faults self.new.net.faults) }
         ensures heard { self.new.net.heard ≡ self.old.net.heard }
         ensures accepted { IfOk result
             (λ link. self.new.net.accepted
@@ -92,7 +126,7 @@ where
         ensures failed { OnErr result (self.new.net.accepted ≡ self.old.net.accepted) }
         ensures rest { self.new ≡ record self.old { net = self.new.net } }
     {
-        self.listener.accept()
+        accept_from(&mut self.listener)
     }
 
     /// Takes the first copier away.

@@ -62,7 +62,7 @@ struct Row {
     list: &'static [u32],
 }
 
-const ROWS: [Row; 7] = [
+const ROWS: [Row; 8] = [
     // a link is answered as a console is
     Row {
         workers: 0,
@@ -111,9 +111,19 @@ const ROWS: [Row; 7] = [
         workers: 0,
         links: &[ASKING, ASKING],
         asked: 2,
-        failing: &[1],
+        failing: &[1, 2, 3, 4, 5, 6, 7, 8, 9, 10, 11, 12, 13, 14, 15, 16],
         served: 0,
         end: FrontEnd::ListenerFault,
+        list: &[0],
+    },
+    // it is accepted by the last of the calls that are tried, and the second one by the third
+    Row {
+        workers: 0,
+        links: &[ASKING, ASKING],
+        asked: 2,
+        failing: &[1, 2, 3, 4, 5, 6, 7, 8, 9, 10, 11, 12, 13, 14, 15, 17, 18],
+        served: 2,
+        end: FrontEnd::Accepted,
         list: &[0],
     },
     // the second link isn't accepted: the first is served all the same
@@ -121,7 +131,7 @@ const ROWS: [Row; 7] = [
         workers: 0,
         links: &[ASKING, ASKING],
         asked: 2,
-        failing: &[2],
+        failing: &[2, 3, 4, 5, 6, 7, 8, 9, 10, 11, 12, 13, 14, 15, 16, 17],
         served: 1,
         end: FrontEnd::ListenerFault,
         list: &[0],

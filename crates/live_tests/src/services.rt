@@ -7,7 +7,9 @@ use crate::links::{TestCopier, TestLink, TestListener};
 use crate::replays::{BookEnd, end_of};
 use cc_base::Link;
 use cluster_gate::Copier;
-use live_service::{Front, FrontEnd, Live, Of, Parties, Service, Serving, Team, run_live_service};
+use live_service::{
+    Crew, Front, FrontEnd, Live, Of, Parties, Service, Serving, Team, run_live_service,
+};
 use mover_rounds::DrainEnd;
 use mover_workers::LoopEnd;
 use net_links::Listener;
@@ -89,7 +91,7 @@ where
     N::Conn: Send + Drop,
     requires copiers { movers + links ≤ vec_len outside.copiers }
     requires few { planners + (movers + links) < 1048576 }
-    ensures ready { IsReady result 1048576 movers planners links }
+    ensures ready { IsReady result 1048576 1048576 movers planners links }
 {
     let Outside {
         copiers,
@@ -142,7 +144,13 @@ where
     assert!(rt; (movers + links) as usize <= outside.copiers.len());
     let team = team_of(rt, alloc, outside, movers, planners, links);
     let book = book_of(rt, alloc, text, failing);
-    match run_live_service(rt, alloc, book, team, movers, planners, serving) {
+    let crew = Crew {
+        movers,
+        planners,
+        serving,
+        reviews: false,
+    };
+    match run_live_service(rt, alloc, book, team, crew) {
         Ok(live) => ended(rt, alloc, text, live),
         Err(_) => panic!(rt; "no turn"),
     }
@@ -160,6 +168,7 @@ fn ended<P: Parties<Gate = TestCluster>, R: Threads + Sync + Abort>(
         team,
         end,
         drain,
+        ..
     } = live;
     let Team {
         front,

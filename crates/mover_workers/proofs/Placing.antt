@@ -56,7 +56,7 @@ stable h t g (x ∷ xs) e p =
     ap (λ (y : List Event). first (record { before = y; event = x.1 })) same ∙ ap (λ (y : List Entry). record { before = take x.0 h; event = x.1 } ∷ y) (stable h t g xs e (placed_behind h x xs p))
 
 -- nothing was added, and more may have been seen
-grown_by : (v w : PassView Meaning Event) → IsPrefix v.seen w.seen → w.mine ≡ v.mine → w.parts ≡ v.parts → HasGrown v w
+grown_by : {O E : Type 0} (v w : PassView O E) → IsPrefix v.seen w.seen → w.mine ≡ v.mine → w.parts ≡ v.parts → HasGrown v w
 grown_by v w longer mine parts = record {
   seen = longer;
   parts = parts;
@@ -64,6 +64,24 @@ grown_by v w longer mine parts = record {
   mine = mine ∙ sym (append-nil v.mine);
   rise = omega (arith, sym (ap length longer.1) ∙ length-append v.seen longer.0);
 }
+
+-- an event was taken, or refused
+module _ {O E R F : Type 0} (reply_of : O → List E → E → R) (blame : F → ℕ) (want : F → Type 0) (sure : O → List E → E → Bool) (outward : E → Bool) (o : O) (v w : PassView O E) (e : E) where
+  grown_acted : (r : R) → HasActed reply_of o v w e r → HasGrown v w
+  grown_acted r a = record {
+    seen = (a.between ++ e ∷ [], sym (append_assoc v.seen a.between (e ∷ [])) ∙ sym a.seen);
+    parts = a.parts;
+    added = (length (v.seen ++ a.between), e) ∷ [];
+    mine = a.mine;
+    rise = (
+      omega (arith, length-append v.seen a.between),
+      omega (arith, ap length a.seen, length-append (v.seen ++ a.between) (e ∷ [])),
+    );
+  }
+
+  pub grown_step : (r : Result R (F × E)) → IfOk r (HasActed reply_of o v w e) → IfErr r (IsRefused blame want sure outward o v w e) → HasGrown v w
+  grown_step (Ok y) a b = grown_acted y a
+  grown_step (Err y) a b = grown_by v w b.longer b.mine b.parts
 
 module _ (file : Meaning) (v w : PassView Meaning Event) (e : Event) (placed : ArePlaced v.seen v.mine) where
   pub has_asked : (r : Reply) → HasActed reply_after file v w e r → HasAsked (known_by_pass file v) (known_by_pass file w) e r
@@ -82,18 +100,6 @@ module _ (file : Meaning) (v w : PassView Meaning Event) (e : Event) (placed : A
         blamed = a.last;
       }
 
-  pub grown_acted : (r : Reply) → HasActed reply_after file v w e r → HasGrown v w
-  grown_acted r a = record {
-    seen = (a.between ++ e ∷ [], sym (append_assoc v.seen a.between (e ∷ [])) ∙ sym a.seen);
-    parts = a.parts;
-    added = (length (v.seen ++ a.between), e) ∷ [];
-    mine = a.mine;
-    rise = (
-      omega (arith, length-append v.seen a.between),
-      omega (arith, ap length a.seen, length-append (v.seen ++ a.between) (e ∷ [])),
-    );
-  }
-
   pub fits_acted : (r : Reply) → HasActed reply_after file v w e r → Fits e r
   fits_acted r a = rw a.replied (replies_fit file (state_after file (v.seen ++ a.between)) e)
 
@@ -110,9 +116,6 @@ module _ (file : Meaning) (v w : PassView Meaning Event) (e : Event) (placed : A
     own = ap (λ m. entries_of w.seen m) r.mine ∙ stable v.seen r.longer.0 w.seen v.mine r.longer.1 placed;
     told = told f back r;
   }
-
-  pub grown_refused : (f : StepFault) (back : Event) → IsRefused blame_of IsWant is_sure_after is_outward file v w e (f, back) → HasGrown v w
-  grown_refused f back r = grown_by v w r.longer r.mine r.parts
 
   -- the same of what the call answered
   pub asked_act : (r : Result Reply (StepFault × Event)) → IfOk r (HasActed reply_after file v w e) → IfOk r (HasAsked (known_by_pass file v) (known_by_pass file w) e)
@@ -132,11 +135,10 @@ module _ (file : Meaning) (v w : PassView Meaning Event) (e : Event) (placed : A
   back_act (Err y) a = a.returned
 
   pub grown_act : (r : Result Reply (StepFault × Event)) → IfOk r (HasActed reply_after file v w e) → IfErr r (IsRefused blame_of IsWant is_sure_after is_outward file v w e) → HasGrown v w
-  grown_act (Ok y) a b = grown_acted y a
-  grown_act (Err y) a b = grown_refused y.0 y.1 b
+  grown_act = grown_step reply_after blame_of IsWant is_sure_after is_outward file v w e
 
 -- a rest
-pub grown_looked : (v w : PassView Meaning Event) → HasLooked v w → HasGrown v w
+pub grown_looked : {O E : Type 0} (v w : PassView O E) → HasLooked v w → HasGrown v w
 grown_looked v w h = grown_by v w h.longer h.mine h.parts
 
 pub rested_looked : (file : Meaning) (v w : PassView Meaning Event) → ArePlaced v.seen v.mine → HasLooked v w → HasRested (known_by_pass file v) (known_by_pass file w)

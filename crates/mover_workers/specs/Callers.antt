@@ -30,7 +30,7 @@ abbrev pub known_by_caller : {A : Type 0} → CallerView A → Known
 known_by_caller c = known_by_pass c.turn.start.file c.pass
 
 -- the same pass after a while: it has the same parts, and has seen no less and made no fewer entries
-pub record IsLater (v w : PassView Meaning Event) : Type 0 where
+pub record IsLater {O E : Type 0} (v w : PassView O E) : Type 0 where
   pub seen : IsPrefix v.seen w.seen
   pub mine : IsPrefix v.mine w.mine
   pub parts : w.parts ≡ v.parts
@@ -42,10 +42,10 @@ Rise lo hi (x ∷ xs) = (lo ≤ x.0) × Rise (suc x.0) hi xs
 
 -- the same pass after a while in which it joined no other: it has the same parts and has seen no less, and its new entries stand behind what
 -- it had seen, in their order
-pub record HasGrown (v w : PassView Meaning Event) : Type 0 where
+pub record HasGrown {O E : Type 0} (v w : PassView O E) : Type 0 where
   pub seen : IsPrefix v.seen w.seen
   pub parts : w.parts ≡ v.parts
-  pub added : List (ℕ × Event)
+  pub added : List (ℕ × E)
   pub mine : w.mine ≡ v.mine ++ added
   pub rise : Rise (length v.seen) (length w.seen) added
 

@@ -1,8 +1,6 @@
 -- The same caller after a while: laws of it.
 use Rattle.std.proofs.Common.{◌≤◌, ℕ, suc, List, [], ◌∷◌, ◌++◌, length, refl, ap, sym, ◌∙◌, append_assoc, append-nil, arith}
 use mathlib.Core.List.{IsPrefix}
-use Rattle.cluster_json.specs.File.{Meaning}
-use Rattle.core_terms.specs.declared.events.Event.{Event}
 use Rattle.turn_book.specs.Known.{Known as PassView}
 use Rattle.mover_workers.specs.Callers.{CallerView, HasGrown, IsSince, Rise}
 
@@ -23,10 +21,10 @@ pub rise_on : {E : Type 0} (a b c : ℕ) (xs ys : List (ℕ × E)) → Rise a b 
 rise_on a b c [] ys p q = rise_from a b c p ys q
 rise_on a b c (x ∷ xs) ys p q = (p.0, rise_on (suc x.0) b c xs ys p.1 q)
 
-pub grown_itself : (v : PassView Meaning Event) → HasGrown v v
+pub grown_itself : {O E : Type 0} (v : PassView O E) → HasGrown v v
 grown_itself v = record { seen = begins_itself v.seen; parts = refl; added = []; mine = sym (append-nil v.mine); rise = omega arith }
 
-pub grown_on : (v u w : PassView Meaning Event) → HasGrown v u → HasGrown u w → HasGrown v w
+pub grown_on : {O E : Type 0} (v u w : PassView O E) → HasGrown v u → HasGrown u w → HasGrown v w
 grown_on v u w p q = record {
   seen = begins_on v.seen u.seen w.seen p.seen q.seen;
   parts = q.parts ∙ p.parts;

@@ -2,8 +2,10 @@
 //! sockets.
 #![tactic(auto)]
 
+mod connection;
 mod host;
 mod listener;
 
+pub use connection::Connection;
 pub use host::{HostLink, HostListener};
 pub use listener::Listener;

@@ -3,12 +3,13 @@ ghost use Rattle.std.specs.Prelude.{◌≡◌, ℕ, List, Option, IfOk, OnErr, O
 ghost use Rattle.cc_base.specs.Outside.{HasCause, with_name};
 ghost use Rattle.net_links.specs.Links.{AcceptedLink, IsFresh, with_link};
 
-use cc_base::{Failed, Link};
+use crate::connection::Connection;
+use cc_base::Failed;
 
 /// What listens at an address, and accepts the links that come there.
 pub trait Listener {
     /// The links that it accepts.
-    type Conn: Link;
+    type Conn: Connection;
 
     /// How many calls have failed.
     ghost faults: { Self → ℕ };

@@ -3,7 +3,8 @@ use Rattle.std.proofs.Common.{◌≡◌, ◌∙◌, ℕ, List, [], ◌∷◌, re
 use Rattle.std.specs.Prelude.{Option, Some, None}
 use Rattle.std.specs.List.{AllByRecursion}
 use Rattle.mover_rounds.specs.declared.drains.DrainEnd.{DrainEnd}
-use Rattle.rest_session.specs.Answered.{AreBlamed, IsBlamed, Piece, fault_told}
+use Rattle.rest_session.specs.Answered.{AreBlamed, IsBlamed, fault_told}
+use Rattle.rest_session.specs.Pieces.{Piece}
 use Rattle.rest_session.specs.Sessions.{drain_fault}
 
 blameless : (o : Option ℕ) (before now : ℕ) → now ≡ 0 → IsBlamed o before now → (before ≡ 0) × (o ≡ None)

@@ -5,7 +5,8 @@ use Rattle.cc_base.specs.Outside.{HasRisen}
 use Rattle.cluster_json.specs.File.{Meaning}
 use Rattle.mover_rounds.specs.declared.drains.DrainEnd.{DrainEnd}
 use Rattle.mover_rounds.specs.declared.drains.DrainEnd.TheVariants as drain
-use Rattle.rest_session.specs.Answered.{HasEnded, Piece, raws_of}
+use Rattle.rest_session.specs.Answered.{HasEnded}
+use Rattle.rest_session.specs.Pieces.{Piece, raws_of}
 use Rattle.rest_session.specs.declared.session.LinkEnd.{LinkEnd}
 use Rattle.rest_session.specs.declared.session.LinkEnd.TheVariants as link
 use Rattle.rest_stream.specs.Stream.{Requests, stopped}
@@ -108,42 +109,42 @@ module _ (e : Edge) (m : Meaning) where
   well_done (check file trace ask) = inl refl
   well_done (apply file ask) = inl refl
   well_done (gen seed brokers partitions file ask) = inl refl
-  well_done (session file) = refl
+  well_done (session file review) = refl
 
   well_failed : (a : Asked) (line : _) → Did a m e (end.GoalFailed line) → IsWell a 4
   well_failed (plan file trace ask) line h = inr refl
   well_failed (check file trace ask) line h = absurd h.1
   well_failed (apply file ask) line h = inr refl
   well_failed (gen seed brokers partitions file ask) line h = inr refl
-  well_failed (session file) line h = absurd (no_goal h.0.link h.0.drain line h.1)
+  well_failed (session file review) line h = absurd (no_goal h.0.link h.0.drain line h.1)
 
   well_traced : (a : Asked) → Did a m e end.TraceRefused → IsWell a 11
   well_traced (plan file trace ask) h = absurd h.1
   well_traced (check file trace ask) h = inr refl
   well_traced (apply file ask) h = absurd h.1
   well_traced (gen seed brokers partitions file ask) h = absurd h.1
-  well_traced (session file) h = absurd (no_trace h.0.link h.0.drain h.1)
+  well_traced (session file review) h = absurd (no_trace h.0.link h.0.drain h.1)
 
   pub read_failed : (a : Asked) → Did a m e end.ReadFault → HasRisen e.io.in_before e.io.in_now
   read_failed (plan file trace ask) h = absurd h.1
   read_failed (check file trace ask) h = absurd h.1
   read_failed (apply file ask) h = absurd h.1
   read_failed (gen seed brokers partitions file ask) h = absurd h.1
-  read_failed (session file) h = h.2.read_fault (was_read h.0.link h.0.drain h.1)
+  read_failed (session file review) h = h.2.read_fault (was_read h.0.link h.0.drain h.1)
 
   pub write_failed : (a : Asked) → Did a m e end.WriteFault → HasRisen e.io.out_before e.io.out_now
   write_failed (plan file trace ask) h = h.3
   write_failed (check file trace ask) h = h.3
   write_failed (apply file ask) h = h.3
   write_failed (gen seed brokers partitions file ask) h = h.3
-  write_failed (session file) h = h.2.write_fault (was_written h.0.link h.0.drain h.1)
+  write_failed (session file review) h = h.2.write_fault (was_written h.0.link h.0.drain h.1)
 
   not_cut : (a : Asked) → Did a m e end.InputCut → IsServable a e → ⊥
   not_cut (plan file trace ask) h w = h.1
   not_cut (check file trace ask) h w = h.1
   not_cut (apply file ask) h w = h.1
   not_cut (gen seed brokers partitions file ask) h w = h.1
-  not_cut (session file) h w = no_cut e.io.left e.io.written_before e.io.written_now h.2.session.answered.pieces h.0.link (was_cut h.0.link h.0.drain h.1) h.2.session.answered.ended w
+  not_cut (session file review) h w = no_cut e.io.left e.io.written_before e.io.written_now h.2.session.answered.pieces h.0.link (was_cut h.0.link h.0.drain h.1) h.2.session.answered.ended w
 
 module _ (words : List (List ℕ)) (e : Edge) (asked : Asked) (given : IsWellGiven words e asked) where
   same : (a : Asked) → command words ≡ Some a → a ≡ asked

@@ -1,5 +1,5 @@
 -- What an end says once what a command made is written.
-use Rattle.std.proofs.Common.{◌≡◌, ◌⊎◌, ◌∙◌, ◌≤◌, ap, inl, inr, ℕ, List, refl, arith}
+use Rattle.std.proofs.Common.{◌≡◌, ◌⊎◌, ◌∙◌, ◌≤◌, ap, inl, inr, Bool, ℕ, List, refl, arith}
 use Rattle.std.specs.Prelude.{Option, Some, IfSome, IfOk, Result, Ok, Err, ◌≢◌}
 use Rattle.cc_base.specs.Outside.{HasRisen, IsPrefixOut, appended}
 use Rattle.cluster_json.specs.File.{Meaning}
@@ -30,7 +30,7 @@ done (apply file ask) m e text _ h w = absurd h
 done (gen seed brokers partitions file ask) m e text end.Done h w = (text, h, w)
 done (gen seed brokers partitions file ask) m e text (end.GoalFailed line) h w = (text, h, w)
 done (gen seed brokers partitions file ask) m e text _ h w = absurd h
-done (session file) m e text _ h w = absurd h
+done (session file review) m e text _ h w = absurd h
 
 -- a prefix of it is out
 cut : (asked : Asked) (m : Meaning) (e : Edge) (text : List ℕ) (way : End) → IsMade e.told asked m text way → HasRisen e.io.out_before e.io.out_now → IsPrefixOut e.io.written_before e.io.written_now text
@@ -39,7 +39,7 @@ cut (plan file trace ask) m e text way h r p = (text, way, h, r, p)
 cut (check file trace ask) m e text way h r p = (text, way, h, r, p)
 cut (apply file ask) m e text way h r p = (text, way, h, r, p)
 cut (gen seed brokers partitions file ask) m e text way h r p = (text, way, h, r, p)
-cut (session file) m e text way h r p = absurd h
+cut (session file review) m e text way h r p = absurd h
 
 -- what was made is written
 pub performed : {E : Type 0} (asked : Asked) (m : Meaning) (e : Edge) (made : Result Answer E) (way : End) → IfOk made (λ a. IsMade e.told asked m a.text.items a.end)
@@ -49,8 +49,8 @@ performed asked m e (Ok a) way h (inr w) = rw w.0 (cut asked m e a.text.items a.
 performed asked m e (Err f) way h w = rw w.0 (inl w.1)
 
 -- a session was served
-module _ (file : List ℕ) (m : Meaning) (e : Edge) where
-  served_by : (l : LinkEnd) (d : DrainEnd) → ended_by l d ≢ end.NotDrained → DidSession m e.io (ended_by l d) → Performs (session file) m e (ended_by l d)
+module _ (file : List ℕ) (review : Bool) (m : Meaning) (e : Edge) where
+  served_by : (l : LinkEnd) (d : DrainEnd) → ended_by l d ≢ end.NotDrained → DidSession m review e.io (ended_by l d) → Performs (session file review) m e (ended_by l d)
   served_by link.Ended drain.Drained n h = h
   served_by link.Ended (drain.AdminFault k) n h = absurd (n refl)
   served_by link.Ended drain.Memory n h = inr h
@@ -63,7 +63,7 @@ module _ (file : List ℕ) (m : Meaning) (e : Edge) where
   served_by link.WriteFault d n h = h
   served_by link.Memory d n h = inr h
 
-  pub served : (way : End) → way ≢ end.NotDrained → ((way ≡ end.Memory) × IsSilent e.io) ⊎ DidSession m e.io way → Performs (session file) m e way
+  pub served : (way : End) → way ≢ end.NotDrained → ((way ≡ end.Memory) × IsSilent e.io) ⊎ DidSession m review e.io way → Performs (session file review) m e way
   served way n (inl h) = rw h.0 (inl h.1)
   served way n (inr h) = rw h.1 (served_by h.0.link h.0.drain (rw h.1 at n) (h.0, refl, h.2))
 
@@ -76,7 +76,7 @@ module _ (words : List (List ℕ)) (asked : Asked) (means : command words ≡ So
   did_same (check file trace ask) e m mid way h = h
   did_same (apply file ask) e m mid way h = h
   did_same (gen seed brokers partitions file ask) e m mid way h = h
-  did_same (session file) e m mid way h = h
+  did_same (session file review) e m mid way h = h
 
   module _ (e : Edge) (m : Meaning) (meant : IfSome (source_of e.told asked) (λ bytes. Means bytes m)) (mid : ℕ) (later : e.files_before ≤ mid) where
     answer : (way : End) → Did asked m (record e { files_before = mid }) way → Ran words e way
@@ -103,7 +103,7 @@ module _ (words : List (List ℕ)) (asked : Asked) (means : command words ≡ So
   all_files (check file trace ask) old = refl
   all_files (apply file ask) old = refl
   all_files (gen seed brokers partitions file ask) old = refl
-  all_files (session file) old = refl
+  all_files (session file review) old = refl
 
   pub first_loaded : (told : List ℕ → Option (List ℕ)) (old new : Option (List (List ℕ))) → (new ≡ old) ⊎ (new ≡ with_source old asked) → (new ≡ old) ⊎ LoadsSome words told old new
   first_loaded told old new (inl h) = inl h

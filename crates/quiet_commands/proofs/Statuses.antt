@@ -45,7 +45,7 @@ module _ (words : List (List ℕ)) (e : Edge) where
   of_session (check file trace ask) m is h = absurd h.1
   of_session (apply file ask) m is h = absurd h.1
   of_session (gen seed brokers partitions file ask) m is h = absurd h.1
-  of_session (session file) m is h = (file, is)
+  of_session (session file review) m is h = (file, review, is)
 
   pub memory : (way : End) → Runs words e way → status_of way ≡ 9 → IsSilent e.io ⊎ AsksSession words
   memory end.Memory (inl h) n = inl h

@@ -15,7 +15,7 @@ pub data Asked : Type 0 where
   check : List ℕ → List ℕ → AskView → Asked
   apply : List ℕ → AskView → Asked
   gen : ℕ → ℕ → ℕ → Bool → AskView → Asked
-  session : List ℕ → Asked
+  session : List ℕ → Bool → Asked
 
 -- the plan that the words ask for: a rebalance
 abbrev pub rebalance : words.GoalsAsked → List (List ℕ) → AskView
@@ -48,7 +48,7 @@ gen_of ask o = unless_refused ask (gen o.seed o.brokers o.partitions o.file ask)
 
 -- a session with movers or planners of its own is another call's
 abbrev session_of : words.SessionAsked → Option Asked
-session_of o = if (o.workers.movers == 0) && (o.workers.planners == 0) then Some (session o.file) else None
+session_of o = if (o.workers.movers == 0) && (o.workers.planners == 0) then Some (session o.file o.review) else None
 
 -- the same of what all words may ask; a service is another call's too
 abbrev pub quiet_of : words.Asked → Option Asked
@@ -70,7 +70,7 @@ source_of told (plan file trace ask) = told file
 source_of told (check file trace ask) = told file
 source_of told (apply file ask) = told file
 source_of told (gen seed brokers partitions file ask) = Some (cluster_text seed brokers partitions)
-source_of told (session file) = told file
+source_of told (session file review) = told file
 
 -- the names of the files that were loaded, with that of a command's cluster file at their end; a cluster that is made is in none
 abbrev pub with_source : Option (List (List ℕ)) → Asked → Option (List (List ℕ))
@@ -78,7 +78,7 @@ with_source log (plan file trace ask) = with_name log file
 with_source log (check file trace ask) = with_name log file
 with_source log (apply file ask) = with_name log file
 with_source log (gen seed brokers partitions file ask) = log
-with_source log (session file) = with_name log file
+with_source log (session file review) = with_name log file
 
 -- the command reads its cluster from a file
 abbrev pub HasFile : Asked → Type 0
@@ -91,13 +91,13 @@ asked (request.Plan file trace planning) = plan (string_bytes file) trace planni
 asked (request.Check file trace planning) = check (string_bytes file) (string_bytes trace) planning.ask
 asked (request.Apply file planning) = apply (string_bytes file) planning.ask
 asked (request.Gen recipe whole planning) = gen recipe.seed recipe.brokers recipe.partitions whole planning.ask
-asked (request.Session file) = session (string_bytes file)
+asked (request.Session file review) = session (string_bytes file) review
 
 -- the words ask a session
 abbrev pub AsksSession : List (List ℕ) → Type 0
-AsksSession given = (file : List ℕ) × (command given ≡ Some (session file))
+AsksSession given = (file : List ℕ) × (review : Bool) × (command given ≡ Some (session file review))
 
 -- only a session reads the input
 abbrev pub IsInputKept : Asked → Option (List ℕ) → Option (List ℕ) → ℕ → ℕ → Type 0
-IsInputKept (session file) old new before now = Unit {0}
+IsInputKept (session file review) old new before now = Unit {0}
 IsInputKept asked old new before now = (new ≡ old) × (now ≡ before)

@@ -19,7 +19,7 @@ HasFailed e = HasRisen e.files_before e.files_now ⊎ HasRisen e.io.in_before e.
 
 -- a session needs an input of whole requests
 abbrev pub IsServable : Asked → Edge → Type 0
-IsServable (session file) e = HasWholeInput e.io.left
+IsServable (session file review) e = HasWholeInput e.io.left
 IsServable asked e = Unit {0}
 
 -- the words are a command, the cluster's text has a meaning, and the input is what the command needs
@@ -37,4 +37,4 @@ IsWell (plan file trace ask) status = (status ≡ 0) ⊎ (status ≡ 4)
 IsWell (check file trace ask) status = (status ≡ 0) ⊎ (status ≡ 11)
 IsWell (apply file ask) status = (status ≡ 0) ⊎ (status ≡ 4)
 IsWell (gen seed brokers partitions file ask) status = (status ≡ 0) ⊎ (status ≡ 4)
-IsWell (session file) status = status ≡ 0
+IsWell (session file review) status = status ≡ 0

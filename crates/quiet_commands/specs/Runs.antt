@@ -28,11 +28,11 @@ IsMade told (plan name trace ask) m text end = IsPlanned trace (planned_for ask 
 IsMade told (check name trace ask) m text end = IsChecked (told trace) (planned_for ask m) (goals_of ask) text end
 IsMade told (apply name ask) m text end = IsApplied m ask text end
 IsMade told (gen seed brokers partitions file ask) m text end = IsGenerated file (cluster_text seed brokers partitions) (planned_for ask m) (goals_of ask) text end
-IsMade told (session name) m text end = ⊥
+IsMade told (session name review) m text end = ⊥
 
 -- what a command did where the run ended so
 abbrev pub Did : Asked → Meaning → Edge → End → Type 0
-Did (session name) m e end = DidSession m e.io end
+Did (session name review) m e end = DidSession m review e.io end
 Did asked m e end = Wrote e.io (IsMade e.told asked m) end
 
 -- the words are a command for a cluster, and P holds of what is asked and of what the cluster's text means
@@ -110,7 +110,7 @@ with_files log (plan file trace ask) = with_name log file
 with_files log (check file trace ask) = with_name (with_name log file) trace
 with_files log (apply file ask) = with_name log file
 with_files log (gen seed brokers partitions file ask) = log
-with_files log (session file) = with_name log file
+with_files log (session file review) = with_name log file
 
 -- of a command's further files, `check` loads its trace
 abbrev pub with_more : Option (List (List ℕ)) → Asked → Option (List (List ℕ))
@@ -118,7 +118,7 @@ with_more log (plan file trace ask) = log
 with_more log (check file trace ask) = with_name log trace
 with_more log (apply file ask) = log
 with_more log (gen seed brokers partitions file ask) = log
-with_more log (session file) = log
+with_more log (session file review) = log
 
 -- the words are a command, and just its files were loaded, in their order
 pub record LoadsAll (words : List (List ℕ)) (old new : Option (List (List ℕ))) : Type 0 where

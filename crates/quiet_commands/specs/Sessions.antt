@@ -1,5 +1,5 @@
 -- What `session` does: it answers the requests of the input over a book of a cluster in memory.
-use Rattle.std.specs.Prelude.{◌≡◌, ◌⊎◌, ℕ, List, [], None, Some}
+use Rattle.std.specs.Prelude.{◌≡◌, ◌⊎◌, ℕ, Bool, true, false, List, [], Option, None, Some}
 use Rattle.std.specs.List.{AllByRecursion}
 use Rattle.cc_base.specs.Outside.{HasRisen}
 use Rattle.cluster_gate.specs.declared.memory.MemoryCluster.{MemoryCluster}
@@ -21,6 +21,8 @@ use Rattle.rest_session.specs.declared.whole.SessionEnd.{SessionEnd}
 use Rattle.rest_stream.specs.Stream.{Requests, closed, stopped}
 use Rattle.rest_stream.specs.declared.raw.RawRequest.{RawRequest}
 use Rattle.rest_stream.specs.declared.raw.Stop.TheVariants as stop
+use Rattle.review_board.specs.Asked.{BoardKnown, known_by_owner}
+use Rattle.review_board.specs.declared.events.BoardEvent.{BoardEvent}
 use Rattle.quiet_commands.specs.Edges.{Console}
 use Rattle.quiet_commands.specs.declared.ends.End.{End}
 use Rattle.quiet_commands.specs.declared.ends.End.TheVariants.{Done, InputCut, Memory, NotDrained, ReadFault, WriteFault}
@@ -50,15 +52,21 @@ pub record IsWholeInput (stream : List ℕ) : Type 0 where
   pub raws : List RawRequest
   pub ends : Requests 0 stream raws closed ⊎ Requests 0 stream raws (stopped stop.End)
 
+-- the board of a session, with this journal, where requests are reviewed; else there is none
+abbrev pub board_kept : Bool → List BoardEvent → Option BoardKnown
+board_kept true journal = Some (known_by_owner journal)
+board_kept false journal = None
+
 -- a whole session over the cluster that a file means: a legal history, in which no copy failed, of the entries that answered the requests,
 -- one Close, and the rounds of a drain; its state is sound, and shows each list as the old one, the new one or, in flight, both. No reply tells
--- a fault of the admin
-pub record IsSessionOf (m : Meaning) (io : Console) (end : SessionEnd) : Type 0 where
+-- a fault of the admin. Where requests are reviewed, they are on a board of the session's own
+pub record IsSessionOf (m : Meaning) (reviews : Bool) (io : Console) (end : SessionEnd) : Type 0 where
   pub before : BookView MemoryCluster
   pub after : BookView MemoryCluster
   pub copies : Copies
   pub opening : before ≡ opened m before.admin
-  pub session : IsSession before after no_copies copies io.left io.written_before io.written_now end
+  pub board : List BoardEvent
+  pub session : IsSession before after (board_kept reviews []) (board_kept reviews board) no_copies copies io.left io.written_before io.written_now end
   pub file_is : after.file ≡ m
   pub legal : AreLegal after.journal
   pub sound : IsSound m (state_of after).desk
@@ -70,5 +78,5 @@ pub record IsSessionOf (m : Meaning) (io : Console) (end : SessionEnd) : Type 0 
   pub write_fault : end.link ≡ link.WriteFault → HasRisen io.out_before io.out_now
 
 -- what a session did where the run ended so
-abbrev pub DidSession : Meaning → Console → End → Type 0
-DidSession m io end = (how : SessionEnd) × (end ≡ ended_by how.link how.drain) × IsSessionOf m io how
+abbrev pub DidSession : Meaning → Bool → Console → End → Type 0
+DidSession m reviews io end = (how : SessionEnd) × (end ≡ ended_by how.link how.drain) × IsSessionOf m reviews io how

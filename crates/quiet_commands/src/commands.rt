@@ -43,6 +43,8 @@ pub enum Request {
     /// Answers the requests of the input, with no movers and no planners of its own.
     Session {
         file: String,
+        /// What starts something is reviewed first.
+        review: bool,
     },
 }
 
@@ -115,7 +117,12 @@ pub fn read_request(alloc: Global, words: &[String]) -> Result<Request, WordsFau
             })
         }
         Command::Session(options) if options.workers.movers == 0 && options.workers.planners == 0 =>
-            { Ok(Request::Session { file: options.file }) }
+            {
+                Ok(Request::Session {
+                    file: options.file,
+                    review: options.review,
+                })
+            }
         _ => Err(WordsFault::Usage),
     }
 }

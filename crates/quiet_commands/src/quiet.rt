@@ -70,7 +70,7 @@ fn source<F: Files>(alloc: Global, files: &mut F, request: &Request) -> Result<V
         Request::Check { file, .. } => files.load(alloc, file),
         Request::Apply { file, .. } => files.load(alloc, file),
         Request::Gen { recipe, .. } => Ok(recipe.text(alloc)?),
-        Request::Session { file } => files.load(alloc, file),
+        Request::Session { file, .. } => files.load(alloc, file),
     }
 }
 
@@ -158,7 +158,7 @@ fn perform<F: Files, L: Link, R: Threads + Sync>(
             console,
             generated(rt, alloc, file, &recipe, whole, &planning),
         ),
-        Request::Session { .. } => session(rt, alloc, file, console),
+        Request::Session { review, .. } => session(rt, alloc, file, review, console),
         Request::Check {
             trace,
             planning,

@@ -1,10 +1,11 @@
 // What `session` does.
-ghost use Rattle.std.specs.Prelude.{◌≡◌, ◌≢◌, ◌≤◌, ◌⊎◌};
+ghost use Rattle.std.specs.Prelude.{◌≡◌, ◌≢◌, ◌≤◌, ◌⊎◌, Bool, List, []};
 ghost use Rattle.cluster_json.specs.Ranges.{IsFile};
 ghost use Rattle.cluster_json.specs.Views.{file_seen};
 ghost use Rattle.control_core.specs.Books.{opened};
 ghost use Rattle.quiet_commands.specs.Edges.{IsSilent, io_told};
-ghost use Rattle.quiet_commands.specs.Sessions.{DidSession, drained_end, ended_by};
+ghost use Rattle.quiet_commands.specs.Sessions.{DidSession, board_kept, drained_end, ended_by};
+ghost use Rattle.review_board.specs.declared.events.BoardEvent.{BoardEvent};
 ghost use Rattle.quiet_commands.specs.declared.ends.End.{End};
 
 use crate::ends::End;
@@ -15,6 +16,7 @@ use control_core::Book;
 use core_laws::every_history;
 use mover_rounds::DrainEnd;
 use rest_session::{LinkEnd, SessionEnd, run_session};
+use review_board::{Board, NoBoard, Reviewer};
 use std::alloc::Global;
 use std::thread::Threads;
 
@@ -43,21 +45,25 @@ pub fn ended_by(ended: SessionEnd) -> End
 }
 
 // Serves a book that was just opened.
-fn serve<L: Link, R: Threads + Sync>(
+fn serve<V: Reviewer, L: Link, R: Threads + Sync>(
     rt: &R,
     alloc: Global,
     book: &mut Book<MemoryCluster>,
+    reviewer: &mut V,
     console: &mut L,
 ) -> End
     requires { book.old ≡ opened book.old.file book.old.admin }
-    ensures did { DidSession book.old.file
+    ensures did { (reviews : Bool) (journal : List BoardEvent)
+        → V.board reviewer.old ≡ board_kept reviews []
+        → V.board reviewer.new ≡ board_kept reviews journal
+        → DidSession book.old.file reviews
         (io_told L.Source L.Sink console.old console.new) result }
     ensures drained { result ≢ End.NotDrained }
     ensures source { L.Source.faults console.old ≤ L.Source.faults console.new }
     ensures sink { L.Sink.faults console.old ≤ L.Sink.faults console.new }
 {
     let mut copier = MemoryCopier::new(alloc);
-    let ended = run_session(rt, alloc, book, &mut copier, console);
+    let ended = run_session(rt, alloc, book, reviewer, &mut copier, console);
     every_history();
     let _legal = book.journal();
     let _few = book.failures();
@@ -65,23 +71,32 @@ fn serve<L: Link, R: Threads + Sync>(
 }
 
 /// Answers the requests of the input over a book of the file's cluster in memory, asks Close, and
-/// makes rounds until nothing is unfinished. The replies go to the output one after another.
+/// makes rounds until nothing is unfinished. The replies go to the output one after another. What
+/// starts something is reviewed first, if that is asked, on a board of the session's own.
 pub fn session<L: Link, R: Threads + Sync>(
     rt: &R,
     alloc: Global,
     file: ClusterFile,
+    review: bool,
     console: &mut L,
 ) -> End
     requires { IsFile file }
     ensures did { ((result ≡ End.Memory)
         × IsSilent (io_told L.Source L.Sink console.old console.new))
-        ⊎ DidSession (file_seen file) (io_told L.Source L.Sink console.old console.new) result }
+        ⊎ DidSession (file_seen file) review (io_told L.Source L.Sink console.old console.new)
+        result }
     ensures drained { result ≢ End.NotDrained }
     ensures source { L.Source.faults console.old ≤ L.Source.faults console.new }
     ensures sink { L.Sink.faults console.old ≤ L.Sink.faults console.new }
 {
     match Book::begin(alloc, file, MemoryCluster::new(alloc)) {
-        Ok(mut book) => serve(rt, alloc, &mut book, console),
+        Ok(mut book) => {
+            if review {
+                serve(rt, alloc, &mut book, &mut Board::new(alloc), console)
+            } else {
+                serve(rt, alloc, &mut book, &mut NoBoard, console)
+            }
+        }
         Err(_) => End::Memory,
     }
 }

@@ -1,7 +1,7 @@
 // What requests mean, as they come from a stream.
 use crate::texts::push;
 use rest_parse::{Call, HttpFault, request_of};
-use rest_stream::{Next, Reader};
+use rest_stream::{Next, RawRequest, Reader};
 use std::alloc::Global;
 use std::process::Abort;
 use test_fakes::MemorySource;
@@ -42,7 +42,7 @@ fn plan(rt: &impl Abort, alloc: Global, ask: &Ask, key: Option<Uuid>) -> String 
 }
 
 // A call, or a fault, in words.
-fn words(rt: &impl Abort, alloc: Global, meant: Result<Call, HttpFault>) -> String {
+pub fn words(rt: &impl Abort, alloc: Global, meant: Result<Call, HttpFault>) -> String {
     let said = match meant {
         Ok(Call::Submit(ask, key)) => return plan(rt, alloc, &ask, key),
         Ok(Call::Stop(force)) => format!(in alloc; "stop {force}"),
@@ -63,19 +63,25 @@ fn words(rt: &impl Abort, alloc: Global, meant: Result<Call, HttpFault>) -> Stri
     said.expect(rt, "memory")
 }
 
-// What a request means that begins and ends so.
-fn meant(rt: &impl Abort, alloc: Global, begin: &str, end: &str) -> String {
+// The request that begins and ends so.
+pub fn next_request(rt: &impl Abort, alloc: Global, begin: &str, end: &str) -> RawRequest {
     let stream = format!(in alloc; "{begin}{end}").expect(rt, "memory");
     let mut source = MemorySource::new(stream.into_bytes());
     let mut reader = Reader::new(alloc).expect(rt, "memory");
     match reader.next(alloc, &mut source) {
-        Next::Request(raw) => words(rt, alloc, request_of(alloc, &raw)),
+        Next::Request(raw) => raw,
         _ => panic!(rt; "no request"),
     }
 }
 
+// What it means.
+fn meant(rt: &impl Abort, alloc: Global, begin: &str, end: &str) -> String {
+    let raw = next_request(rt, alloc, begin, end);
+    words(rt, alloc, request_of(alloc, &raw))
+}
+
 // What stands behind `/kafkacruisecontrol/` in a first line, and what the request means.
-const REQUESTS: [(&str, &str); 57] = [
+const REQUESTS: [(&str, &str); 60] = [
     ("GET state", "State"),
     ("GET load?json=true&verbose=&reason=%", "Load"),
     ("GET kafka_cluster_state", "ClusterState"),
@@ -89,6 +95,9 @@ const REQUESTS: [(&str, &str); 57] = [
     ("PUT nothing", "NotFound"),
     ("PUT state", "WrongMethod"),
     ("get state", "WrongMethod"),
+    ("POST review?approve=1", "NotFound"),
+    ("GET review_board", "NotFound"),
+    ("POST rebalance?review_id=1", "bad review_id"),
     ("POST state", "WrongMethod"),
     ("GET rebalance", "WrongMethod"),
     ("GET rebalance?dryrun=maybe", "WrongMethod"),
@@ -213,21 +222,21 @@ const CLUSTER: [(&str, &str); 14] = [
     ("GET detect?now=1", "WrongMethod"),
 ];
 
-fn target(rt: &impl Abort, alloc: Global, root: &str, words: &str) -> String {
+pub fn first_line(rt: &impl Abort, alloc: Global, root: &str, words: &str) -> String {
     let Some((method, rest)) = words.split_once(' ') else {
         panic!(rt; "no method");
     };
     format!(in alloc; "{method} {root}{rest} HTTP/1.1\r\n").expect(rt, "memory")
 }
 
-const KEYED: &str = "User-Task-ID: 7\r\n\r\n";
+pub const KEYED: &str = "User-Task-ID: 7\r\n\r\n";
 
 // No key is looked at but a plan's, and that one last: where nothing else is wrong the key is.
 #[test]
 fn requests_mean_their_call_or_their_first_fault(rt: HostRuntime) {
     let alloc = rt.alloc();
     for (words, want) in &REQUESTS {
-        let line = target(&rt, alloc, "/kafkacruisecontrol/", words);
+        let line = first_line(&rt, alloc, "/kafkacruisecontrol/", words);
         let text = meant(&rt, alloc, line.as_str(), "\r\n");
         assert_eq!(rt; text.as_str(), *want, "{words}");
         let keyed = meant(&rt, alloc, line.as_str(), KEYED);
@@ -242,7 +251,7 @@ fn requests_mean_their_call_or_their_first_fault(rt: HostRuntime) {
         );
     }
     for (words, want) in &CLUSTER {
-        let line = target(&rt, alloc, "/cluster/", words);
+        let line = first_line(&rt, alloc, "/cluster/", words);
         let text = meant(&rt, alloc, line.as_str(), KEYED);
         assert_eq!(rt; text.as_str(), *want, "{words}");
     }

@@ -21,7 +21,11 @@ fn push_topics(rt: &impl Abort, text: &mut String, topics: &[Topic]) {
     }
 }
 
-// A command without goals and topics, in words.
+fn push_review(rt: &impl Abort, text: &mut String, review: bool) {
+    push(rt, text, if review { " review" } else { "" });
+}
+
+// A command without goals, topics and reviews, in words.
 fn begun(rt: &impl Abort, alloc: Global, command: &Command) -> String {
     let said = match command {
         Command::Plan(o) => format!(in alloc; "plan {} {}", o.file, o.trace),
@@ -63,7 +67,8 @@ fn told(rt: &impl Abort, alloc: Global, command: &Command) -> String {
             push_topics(rt, &mut text, &o.excluded_topics);
         }
         Command::Gen(o) => push_goals(rt, &mut text, &o.goals),
-        Command::Session(_) | Command::Serve(_) => {}
+        Command::Session(o) => push_review(rt, &mut text, o.review),
+        Command::Serve(o) => push_review(rt, &mut text, o.review),
     }
     text
 }
@@ -79,7 +84,7 @@ fn split(rt: &impl Abort, alloc: Global, line: &str) -> Vec<String> {
 }
 
 // Words that are taken, and what they mean.
-const LINES: [(&str, &str); 27] = [
+const LINES: [(&str, &str); 31] = [
     ("plan F", "plan F false"),
     ("plan F --goals A", "plan F false goal A"),
     ("plan F --goals=A,B", "plan F false goal A goal B"),
@@ -122,12 +127,16 @@ const LINES: [(&str, &str); 27] = [
     ("session F", "session F 0 0"),
     ("session F --movers 64 --planners=4", "session F 64 4"),
     ("session --planners 0 --movers=0 F", "session F 0 0"),
+    ("session F --review", "session F 0 0 review"),
+    ("session --review F --movers 1", "session F 1 0 review"),
+    ("session -- --review", "session --review 0 0"),
     ("serve F", "serve F 0 0 127.0.0.1:9090 1"),
     (
         "serve F --movers=2 --planners 1 --listen 0.0.0.0:80 --links 64",
         "serve F 2 1 0.0.0.0:80 64",
     ),
     ("serve F --links=1", "serve F 0 0 127.0.0.1:9090 1"),
+    ("serve --review F", "serve F 0 0 127.0.0.1:9090 1 review"),
 ];
 
 #[test]
@@ -144,7 +153,7 @@ fn words_mean_their_command(rt: HostRuntime) {
 }
 
 // Words, and whether they want a run with threads or a listener.
-const LIVE: [(&str, bool); 18] = [
+const LIVE: [(&str, bool); 20] = [
     ("plan F", false),
     ("plan F --movers 2", false),
     ("serve F", true),
@@ -162,6 +171,8 @@ const LIVE: [(&str, bool); 18] = [
     ("session F --planners=4", true),
     ("session F --planners ", true),
     ("session F --mover=2", false),
+    ("session F --review", false),
+    ("session --review F --movers 1", true),
     ("F serve", false),
 ];
 

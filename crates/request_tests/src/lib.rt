@@ -11,6 +11,8 @@ mod outside;
 #[cfg(test)]
 mod replies;
 #[cfg(test)]
+mod reviews;
+#[cfg(test)]
 mod streams;
 #[cfg(test)]
 mod texts;

@@ -10,6 +10,7 @@ use goal_set::{GoalFault, GoalKind};
 use plan_terms::{BrokerState, Caps, GoalName, ListOf, Replicas, Topic};
 use rest_parse::{HttpFault, ParameterName, Stop};
 use rest_replies::{Told, reply_bytes};
+use review_board::{BoardReply, ReviewState, Row};
 use std::alloc::Global;
 use std::process::Abort;
 use user_tasks::{Op, Status, task_id};
@@ -83,6 +84,11 @@ fn task() -> TaskShown {
         op: Op::RemoveBroker,
         status: Status::Completed,
     }
+}
+
+fn row(rt: &impl Abort, alloc: Global, id: u64, path: &str, state: ReviewState) -> Row {
+    let path = ListOf::new(path.as_bytes().to_vec(alloc).expect(rt, "memory"));
+    Row { id, path, state }
 }
 
 fn tasks(rt: &impl Abort, alloc: Global) -> Rows {
@@ -364,6 +370,80 @@ fn stops(rt: &impl Abort, alloc: Global) -> Rows {
     rows.expect(rt, "memory")
 }
 
+fn boards(rt: &impl Abort, alloc: Global) -> Rows {
+    let rows = vec![in alloc;
+        (
+            Told::Board(BoardReply::Filed(1)),
+            "HTTP/1.1 202 Accepted\r\nContent-Type: application/json\r\nContent-Length: 52\r\n\r\n{\"reviewId\":1,\"status\":\"PENDING_REVIEW\",\"version\":1}",
+        ),
+        (
+            Told::Board(BoardReply::Reviewed(ListOf::new(
+                (vec![in alloc;
+                    row(
+                        rt,
+                        alloc,
+                        1,
+                        "/kafkacruisecontrol/remove_broker",
+                        ReviewState::Approved
+                    ),
+                ])
+                .expect(rt, "memory")
+            ))),
+            "HTTP/1.1 200 OK\r\nContent-Type: application/json\r\nContent-Length: 88\r\n\r\n{\"requests\":[{\"endpoint\":\"remove_broker\",\"reviewId\":1,\"status\":\"APPROVED\"}],\"version\":1}",
+        ),
+        (
+            Told::Board(BoardReply::Listed(ListOf::new(
+                (vec![in alloc;
+                    row(
+                        rt,
+                        alloc,
+                        1,
+                        "/kafkacruisecontrol/admin",
+                        ReviewState::PendingReview
+                    ),
+                    row(rt, alloc, 2, "/a/", ReviewState::Submitted),
+                    row(rt, alloc, 3, "b", ReviewState::Discarded),
+                ])
+                .expect(rt, "memory")
+            ))),
+            "HTTP/1.1 200 OK\r\nContent-Type: application/json\r\nContent-Length: 187\r\n\r\n{\"requests\":[{\"endpoint\":\"admin\",\"reviewId\":1,\"status\":\"PENDING_REVIEW\"},{\"endpoint\":\"\",\"reviewId\":2,\"status\":\"SUBMITTED\"},{\"endpoint\":\"b\",\"reviewId\":3,\"status\":\"DISCARDED\"}],\"version\":1}",
+        ),
+        (
+            Told::Board(BoardReply::Listed(ListOf::new(Vec::new(alloc)))),
+            "HTTP/1.1 200 OK\r\nContent-Type: application/json\r\nContent-Length: 27\r\n\r\n{\"requests\":[],\"version\":1}",
+        ),
+        (
+            Told::Board(BoardReply::Given(ListOf::new(Vec::new(alloc)))),
+            "",
+        ),
+        (
+            Told::Board(BoardReply::NoSuchReview(2)),
+            "HTTP/1.1 400 Bad Request\r\nContent-Type: application/json\r\nContent-Length: 48\r\n\r\n{\"errorMessage\":\"no such review: 2\",\"version\":1}",
+        ),
+        (
+            Told::Board(BoardReply::OtherEndpoint(1)),
+            "HTTP/1.1 400 Bad Request\r\nContent-Type: application/json\r\nContent-Length: 48\r\n\r\n{\"errorMessage\":\"other endpoint: 1\",\"version\":1}",
+        ),
+        (
+            Told::Board(BoardReply::NotPending(1, ReviewState::Approved)),
+            "HTTP/1.1 409 Conflict\r\nContent-Type: application/json\r\nContent-Length: 51\r\n\r\n{\"errorMessage\":\"review 1 is APPROVED\",\"version\":1}",
+        ),
+        (
+            Told::Board(BoardReply::NotPending(2, ReviewState::Discarded)),
+            "HTTP/1.1 409 Conflict\r\nContent-Type: application/json\r\nContent-Length: 52\r\n\r\n{\"errorMessage\":\"review 2 is DISCARDED\",\"version\":1}",
+        ),
+        (
+            Told::Board(BoardReply::NotApproved(1, ReviewState::PendingReview)),
+            "HTTP/1.1 409 Conflict\r\nContent-Type: application/json\r\nContent-Length: 57\r\n\r\n{\"errorMessage\":\"review 1 is PENDING_REVIEW\",\"version\":1}",
+        ),
+        (
+            Told::Board(BoardReply::NotApproved(1, ReviewState::Submitted)),
+            "HTTP/1.1 409 Conflict\r\nContent-Type: application/json\r\nContent-Length: 52\r\n\r\n{\"errorMessage\":\"review 1 is SUBMITTED\",\"version\":1}",
+        ),
+    ];
+    rows.expect(rt, "memory")
+}
+
 #[test]
 fn replies_are_these_bytes(rt: HostRuntime) {
     let alloc = rt.alloc();
@@ -375,6 +455,7 @@ fn replies_are_these_bytes(rt: HostRuntime) {
         decisions(&rt, alloc),
         requests(&rt, alloc),
         stops(&rt, alloc),
+        boards(&rt, alloc),
     ] {
         for (told, want) in &rows {
             let bytes = reply_bytes(alloc, told).expect(&rt, "memory");

@@ -139,7 +139,7 @@ called endpoint.Kill pairs raw = Ok (call.Kill (unwrap_or (option_and_then id_of
 called endpoint.Sample pairs raw = sample_call raw.body
 
 -- unless a name is at fault
-abbrev pub unless_bad : Option (List ℕ) → Result Call HttpFault → Result Call HttpFault
+abbrev pub unless_bad : {T : Type 0} → Option (List ℕ) → Result T HttpFault → Result T HttpFault
 unless_bad None meant = meant
 unless_bad (Some name) meant = Err (fault.BadParameter name)
 

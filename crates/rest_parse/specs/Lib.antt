@@ -1,4 +1,6 @@
 pub mod Calls
 pub mod Parameters
 pub mod Query
+pub mod ReviewPairs
+pub mod Reviews
 pub mod Routes

@@ -250,8 +250,8 @@ fn missing_name(endpoint: Endpoint, pairs: &[Pair]) -> Option<&'static str>
     }
 }
 
-// The fault of a parameter.
-fn bad_parameter(alloc: Global, name: &str) -> HttpFault
+/// The fault of a parameter.
+pub fn bad_parameter(alloc: Global, name: &str) -> HttpFault
     ensures { (result ≡ HttpFault.Memory) ⊎ (result ≡ HttpFault.BadParameter name.now) }
 {
     match String::from_str(alloc, name) {

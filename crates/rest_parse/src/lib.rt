@@ -7,8 +7,11 @@ mod faulty;
 mod lists;
 mod parameters;
 mod query;
+mod review_pairs;
+mod reviews;
 mod routes;
 
 pub use calls::{Call, HttpFault, ParameterName, request_of};
 pub use rest_stream::Stop;
+pub use reviews::{ReviewCall, reviewed_of};
 pub use routes::{Endpoint, Routes};

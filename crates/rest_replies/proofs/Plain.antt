@@ -17,8 +17,9 @@ use Rattle.core_terms.specs.declared.replies.Named.{Named}
 use Rattle.core_terms.specs.declared.shows.PartShown.{PartShown}
 use Rattle.core_terms.specs.declared.shows.Shown.{Shown}
 use Rattle.core_terms.specs.declared.shows.Shown.TheVariants as shown
+use Rattle.review_board.specs.declared.events.Row.{Row}
 use Rattle.rest_replies.specs.Answers.{shown_data}
-use Rattle.rest_replies.specs.Bodies.{anomaly_data, broker_data, caps_data, cause_data, decided_data, done_data, ended_data, error_data, failed_data, killed_data, open_data, part_data, proposal_data, pumped_data, sampled_data, stopped_data, task_data}
+use Rattle.rest_replies.specs.Bodies.{anomaly_data, broker_data, caps_data, cause_data, decided_data, done_data, ended_data, error_data, failed_data, killed_data, open_data, part_data, proposal_data, pumped_data, row_data, rows_data, sampled_data, stopped_data, task_data}
 use Rattle.rest_replies.specs.Plain.{IsPlain}
 
 whole_proposal : (p : Named) → has_float (proposal_data p) ≡ false
@@ -95,4 +96,10 @@ shown_plain (shown.ClusterState lost parts) = record {
 shown_plain (shown.UserTasks tasks) = record {
   whole = rw (whole_items task_data (λ t. refl) tasks) refl;
   shallow = omega (arith, flat_items task_data 1 (λ t. omega arith) tasks);
+}
+
+pub rows_plain : (rows : List Row) → IsPlain (rows_data rows)
+rows_plain rows = record {
+  whole = rw (whole_items row_data (λ r. refl) rows) refl;
+  shallow = omega (arith, flat_items row_data 1 (λ r. omega arith) rows);
 }

@@ -13,8 +13,10 @@ use Rattle.core_terms.specs.declared.replies.Reply.{Reply}
 use Rattle.core_terms.specs.declared.replies.Reply.TheVariants as reply
 use Rattle.core_terms.specs.declared.shows.Shown.{Shown}
 use Rattle.core_terms.specs.declared.shows.Shown.TheVariants as shown
-use Rattle.rest_replies.specs.Bodies.{caps_data, cluster_data, decided_data, done_data, ended_data, error_data, failed_data, killed_data, loads_data, open_data, pumped_data, sampled_data, state_data, stopped_data, tasks_data}
-use Rattle.rest_replies.specs.Refusals.{Refused, core_refusal, http_refusal, no_memory, step_refusal, stop_refusal, with_number}
+use Rattle.review_board.specs.declared.events.BoardReply.{BoardReply}
+use Rattle.review_board.specs.declared.events.BoardReply.TheVariants as board
+use Rattle.rest_replies.specs.Bodies.{caps_data, cluster_data, decided_data, done_data, ended_data, error_data, failed_data, filed_data, killed_data, loads_data, open_data, pumped_data, rows_data, sampled_data, state_data, stopped_data, tasks_data}
+use Rattle.rest_replies.specs.Refusals.{Refused, board_refusal, core_refusal, http_refusal, no_memory, step_refusal, stop_refusal, with_number}
 use Rattle.rest_replies.specs.Texts.{head_text, reply_text}
 use Rattle.rest_replies.specs.declared.answer.Answer.{Answer}
 use Rattle.rest_replies.specs.declared.texts.Code.{Code}
@@ -77,6 +79,21 @@ pump_answer (pump.Done done idle) = Some (ok_answer (pumped_data done idle))
 pump_answer (pump.AdminFault n) = option_map refused (with_number code.InternalError (codes "admin fault: ") n)
 pump_answer pump.Memory = option_map refused no_memory
 
+-- 202 with this body, and no user task
+abbrev pub accepted_answer : Data → AnswerView
+accepted_answer body = record { code = code.Accepted; task = None; body = body }
+
+-- of a board's answer to an event, where that is no refusal
+abbrev pub board_result : BoardReply → Option AnswerView
+board_result (board.Filed id) = Some (accepted_answer (filed_data id))
+board_result (board.Reviewed rows) = Some (ok_answer (rows_data rows))
+board_result (board.Listed rows) = Some (ok_answer (rows_data rows))
+board_result r = None
+
+-- of a board's answer to an event. A request that was given out has none here: it is answered as what it asks.
+abbrev pub board_answer : BoardReply → Option AnswerView
+board_answer r = option_or (board_result r) (option_map refused (board_refusal r))
+
 -- of what is told
 abbrev pub answer_of : Told → Option AnswerView
 answer_of (told.Core r) = core_answer r
@@ -85,6 +102,7 @@ answer_of (told.Pump end) = pump_answer end
 answer_of (told.Decided d) = Some (ok_answer (decided_data d))
 answer_of (told.Http fault) = option_map refused (http_refusal fault)
 answer_of (told.Stopped why) = option_map refused (stop_refusal why)
+answer_of (told.Board r) = board_answer r
 
 -- the bytes of a reply; none where there is no reply
 abbrev pub bytes_of : Option AnswerView → List ℕ

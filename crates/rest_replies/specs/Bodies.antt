@@ -21,7 +21,9 @@ use Rattle.core_terms.specs.declared.shows.BrokerShown.{BrokerShown}
 use Rattle.core_terms.specs.declared.shows.ExecutorState.{ExecutorState}
 use Rattle.core_terms.specs.declared.shows.PartShown.{PartShown}
 use Rattle.core_terms.specs.declared.shows.TaskShown.{TaskShown}
-use Rattle.rest_replies.specs.Texts.{broker_state_text, endpoint_text, executor_state_text, task_status_text}
+use Rattle.review_board.specs.declared.events.ReviewState.TheVariants as review
+use Rattle.review_board.specs.declared.events.Row.{Row}
+use Rattle.rest_replies.specs.Texts.{broker_state_text, endpoint_text, executor_state_text, last_part_text, review_state_text, task_status_text}
 
 -- the last member of each body
 abbrev pub version : Members
@@ -143,3 +145,15 @@ task_data t = object (member (codes "endpoint") (string (endpoint_text t.op)) (m
 -- the user tasks
 abbrev pub tasks_data : List TaskShown → Data
 tasks_data tasks = object (member (codes "userTasks") (array (items_of (map task_data tasks))) version)
+
+-- a request that was just filed for its review
+abbrev pub filed_data : ℕ → Data
+filed_data id = object (member (codes "reviewId") (number_data id) (member (codes "status") (string (review_state_text review.PendingReview)) version))
+
+-- a reviewed request among the others
+abbrev pub row_data : Row → Data
+row_data r = object (member (codes "endpoint") (string (last_part_text r.path)) (member (codes "reviewId") (number_data r.id) (member (codes "status") (string (review_state_text r.state)) no_members)))
+
+-- the reviewed requests
+abbrev pub rows_data : List Row → Data
+rows_data rows = object (member (codes "requests") (array (items_of (map row_data rows))) version)

@@ -11,6 +11,10 @@ use Rattle.rest_parse.specs.declared.calls.HttpFault.{HttpFault}
 use Rattle.rest_parse.specs.declared.calls.HttpFault.TheVariants as http
 use Rattle.rest_stream.specs.declared.raw.Stop.{Stop}
 use Rattle.rest_stream.specs.declared.raw.Stop.TheVariants as stop
+use Rattle.review_board.specs.declared.events.BoardReply.{BoardReply}
+use Rattle.review_board.specs.declared.events.BoardReply.TheVariants as board
+use Rattle.review_board.specs.declared.events.ReviewState.{ReviewState}
+use Rattle.rest_replies.specs.Texts.{review_state_text}
 use Rattle.rest_replies.specs.declared.refusals.Refusal.{Refusal}
 use Rattle.rest_replies.specs.declared.texts.Code.{Code}
 use Rattle.rest_replies.specs.declared.texts.Code.TheVariants as code
@@ -87,3 +91,15 @@ core_refusal reply.NoSuchPartition = plain code.BadRequest (codes "no such parti
 core_refusal (reply.TooOld window) = with_number code.Conflict (codes "too old, oldest window: ") window
 core_refusal reply.WindowFull = plain code.Conflict (codes "window full")
 core_refusal r = None
+
+-- a request is too far for what is asked, or not far enough
+abbrev pub state_refusal : ℕ → ReviewState → Option Refused
+state_refusal id s = plain code.Conflict (codes "review " ++ (decimal id ++ (codes " is " ++ review_state_text s)))
+
+-- which of a board's answers are refusals
+abbrev pub board_refusal : BoardReply → Option Refused
+board_refusal (board.NoSuchReview id) = with_number code.BadRequest (codes "no such review: ") id
+board_refusal (board.OtherEndpoint id) = with_number code.BadRequest (codes "other endpoint: ") id
+board_refusal (board.NotPending id s) = state_refusal id s
+board_refusal (board.NotApproved id s) = state_refusal id s
+board_refusal r = None

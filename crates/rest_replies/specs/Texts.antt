@@ -1,5 +1,7 @@
 -- Texts of replies.
-use Rattle.std.specs.Prelude.{ℕ, List, [], ◌∷◌, ◌++◌, length, Option, Some, None, codes, decimal}
+use Rattle.std.specs.Prelude.{ℕ, ◌==◌, List, [], ◌∷◌, ◌++◌, length, Option, Some, None, codes, decimal}
+use Rattle.std.specs.List.{after_last}
+use Rattle.std.specs.Str.Lossy.{utf8_lossy}
 use Rattle.uuid.specs.Text.{hyphenated_text, lower}
 use Rattle.plan_terms.specs.declared.cluster.BrokerState.{BrokerState}
 use Rattle.plan_terms.specs.declared.cluster.BrokerState.TheVariants as broker
@@ -9,7 +11,9 @@ use Rattle.user_tasks.specs.declared.table.Status.{Status}
 use Rattle.user_tasks.specs.declared.table.Status.TheVariants as status
 use Rattle.core_terms.specs.declared.shows.ExecutorState.{ExecutorState}
 use Rattle.core_terms.specs.declared.shows.ExecutorState.TheVariants as executor
-use Rattle.plan_terms.specs.Bytes.{line_feed, carriage_return}
+use Rattle.review_board.specs.declared.events.ReviewState.{ReviewState}
+use Rattle.review_board.specs.declared.events.ReviewState.TheVariants as review
+use Rattle.plan_terms.specs.Bytes.{line_feed, carriage_return, slash}
 use Rattle.rest_replies.specs.declared.texts.Code.{Code}
 use Rattle.rest_replies.specs.declared.texts.Code.TheVariants as code
 
@@ -57,6 +61,21 @@ executor_state_text executor.NoTask = codes "NO_TASK_IN_PROGRESS"
 executor_state_text executor.Stopping = codes "STOPPING_EXECUTION"
 executor_state_text executor.MovingReplicas = codes "INTER_BROKER_REPLICA_MOVEMENT_TASK_IN_PROGRESS"
 executor_state_text executor.MovingLeaders = codes "LEADER_MOVEMENT_TASK_IN_PROGRESS"
+
+-- how far a request is that waits for its review, or did
+abbrev pub review_state_text : ReviewState → List ℕ
+review_state_text review.PendingReview = codes "PENDING_REVIEW"
+review_state_text review.Approved = codes "APPROVED"
+review_state_text review.Submitted = codes "SUBMITTED"
+review_state_text review.Discarded = codes "DISCARDED"
+
+-- the last part of a path: what stands behind its last `/`
+abbrev pub last_part : List ℕ → List ℕ
+last_part path = after_last (λ b. b == slash) path
+
+-- the same as a text; what is no UTF-8 is replaced
+abbrev pub last_part_text : List ℕ → List ℕ
+last_part_text path = utf8_lossy (last_part path)
 
 -- the end of a line of a head
 abbrev pub line_end : List ℕ

@@ -1,18 +1,20 @@
 // The reply to what is told, before it is written.
 ghost use Rattle.std.specs.Prelude.{◌≡◌, Some, option_map, IfOk};
 ghost use Rattle.serde_json.specs.View.{view};
-ghost use Rattle.rest_replies.specs.Answers.{answer_of, answer_seen, core_answer, core_result, ok_answer, pump_answer, refused, shown_data, task_answer};
-ghost use Rattle.rest_replies.specs.Bodies.{decided_data};
+ghost use Rattle.rest_replies.specs.Answers.{accepted_answer, answer_of, answer_seen, board_answer, board_result, core_answer, core_result, ok_answer, pump_answer, refused, shown_data, task_answer};
+ghost use Rattle.rest_replies.specs.Bodies.{decided_data, rows_data};
 ghost use Rattle.rest_replies.specs.Plain.{IsPlain};
 ghost use Rattle.rest_replies.specs.Refusals.{refusal_seen};
 
 use crate::answer::Answer;
+use crate::boards::{filed_value, rows_value};
 use crate::bodies::{
     caps_value, decided_value, done_value, ended_value, error_value, failed_value, killed_value,
     open_value, pumped_value, sampled_value, stopped_value,
 };
 use crate::refusals::{
-    Refusal, core_refusal, http_refusal, no_memory, step_refusal, stop_refusal, with_number,
+    Refusal, board_refusal, core_refusal, http_refusal, no_memory, step_refusal, stop_refusal,
+    with_number,
 };
 use crate::shows::shown_value;
 use crate::texts::Code;
@@ -20,6 +22,7 @@ use crate::told::Told;
 use anomaly_detector::Decision;
 use core_terms::{Outcome, PumpEnd, Reply, Shown};
 use plan_terms::Memory;
+use review_board::{BoardReply, Row};
 use serde_json::Value;
 use std::alloc::Global;
 use user_tasks::Status;
@@ -159,6 +162,52 @@ fn pump_answer(alloc: Global, end: PumpEnd) -> Result<Option<Answer>, Memory>
     }
 }
 
+// 202, and no user task.
+fn accepted(body: Value) -> Answer
+    requires { IsPlain (view body) }
+    ensures { answer_seen result ≡ accepted_answer (view body) }
+{
+    Answer {
+        code: Code::Accepted,
+        task: None,
+        body,
+    }
+}
+
+// The reply that shows reviewed requests.
+fn rows_answer(alloc: Global, rows: &[Row]) -> Result<Answer, Memory>
+    ensures { IfOk result (λ a. answer_seen a ≡ ok_answer (rows_data rows.now)) }
+{
+    let body = rows_value(alloc, rows)?;
+    Ok(ok(body))
+}
+
+// The reply of a board's answer to an event, where that is no refusal.
+fn board_result(alloc: Global, reply: &BoardReply) -> Result<Option<Answer>, Memory>
+    ensures { IfOk result (λ o. option_map answer_seen o ≡ board_result reply.now) }
+{
+    match reply {
+        BoardReply::Filed(id) => Ok(Some(accepted(filed_value(alloc, *id)?))),
+        BoardReply::Reviewed(rows) | BoardReply::Listed(rows) => {
+            Ok(Some(rows_answer(alloc, rows.as_slice())?))
+        }
+        _ => Ok(None),
+    }
+}
+
+// The reply of a board's answer to an event.
+fn board_answer(alloc: Global, reply: &BoardReply) -> Result<Option<Answer>, Memory>
+    ensures { IfOk result (λ o. option_map answer_seen o ≡ board_answer reply.now) }
+{
+    match board_result(alloc, reply)? {
+        Some(answer) => Ok(Some(answer)),
+        None => {
+            let refusal = board_refusal(alloc, reply)?;
+            refused(alloc, refusal)
+        }
+    }
+}
+
 /// The reply to what is told; none where nothing is to be written.
 pub fn answer_of(alloc: Global, told: &Told) -> Result<Option<Answer>, Memory>
     ensures { IfOk result (λ o. option_map answer_seen o ≡ answer_of told.now) }
@@ -179,5 +228,6 @@ pub fn answer_of(alloc: Global, told: &Told) -> Result<Option<Answer>, Memory>
             let refusal = stop_refusal(alloc, *stop)?;
             refused(alloc, refusal)
         }
+        Told::Board(reply) => board_answer(alloc, reply),
     }
 }

@@ -4,6 +4,7 @@
 
 mod answer;
 mod answers;
+mod boards;
 mod bodies;
 mod laws;
 mod refusals;

@@ -1,13 +1,14 @@
 // Refusals: a code and a text.
 ghost use Rattle.std.specs.Prelude.{◌≡◌, ◌++◌, option_map, IfOk};
-ghost use Rattle.rest_replies.specs.Refusals.{core_refusal, goals_refusal, http_refusal, no_memory, plain, refusal_seen, step_refusal, stop_refusal, with_id, with_number};
+ghost use Rattle.rest_replies.specs.Refusals.{board_refusal, core_refusal, goals_refusal, http_refusal, no_memory, plain, refusal_seen, state_refusal, step_refusal, stop_refusal, with_id, with_number};
 
-use crate::texts::Code;
+use crate::texts::{Code, review_state_text};
 use core_terms::{Reply, StepFault};
 use goal_set::GoalFault;
 use plan_terms::Memory;
 use rest_parse::HttpFault;
 use rest_stream::Stop;
+use review_board::{BoardReply, ReviewState};
 use std::alloc::Global;
 use user_tasks::id_text;
 use uuid::Uuid;
@@ -157,6 +158,33 @@ pub fn core_refusal(alloc: Global, reply: &Reply) -> Result<Option<Refusal>, Mem
         Reply::NoSuchPartition => plain(alloc, bad, "no such partition"),
         Reply::TooOld(window) => with_number(alloc, conflict, "too old, oldest window: ", *window),
         Reply::WindowFull => plain(alloc, conflict, "window full"),
+        _ => Ok(None),
+    }
+}
+
+// A request is too far for what is asked, or not far enough.
+fn state_refusal(alloc: Global, id: u64, state: ReviewState) -> Result<Option<Refusal>, Memory>
+    ensures { IfOk result (λ o. option_map refusal_seen o ≡ state_refusal id state) }
+{
+    let state = review_state_text(state);
+    let text = format!(in alloc; "review {id} is {state}")?;
+    Ok(Some(Refusal {
+        code: Code::Conflict,
+        text,
+    }))
+}
+
+/// Why a board refuses what is asked, where it does.
+pub fn board_refusal(alloc: Global, reply: &BoardReply) -> Result<Option<Refusal>, Memory>
+    ensures { IfOk result (λ o. option_map refusal_seen o ≡ board_refusal reply.now) }
+{
+    let bad = Code::BadRequest;
+    match reply {
+        BoardReply::NoSuchReview(id) => with_number(alloc, bad, "no such review: ", *id),
+        BoardReply::OtherEndpoint(id) => with_number(alloc, bad, "other endpoint: ", *id),
+        BoardReply::NotPending(id, state) | BoardReply::NotApproved(id, state) => {
+            state_refusal(alloc, *id, *state)
+        }
         _ => Ok(None),
     }
 }

@@ -25,8 +25,8 @@ fn written(alloc: Global, answer: &Answer) -> Result<Vec<u8>, Memory>
 }
 
 /// The bytes of the reply to what is told; none where nothing is to be written: behind the end of a
-/// stream, behind a read that failed or that had no memory, and for what only planners and movers
-/// are answered.
+/// stream, behind a read that failed or that had no memory, for what only planners and movers are
+/// answered, and for a request that a board gave out, which is answered as what it asks.
 pub fn reply_bytes(alloc: Global, told: &Told) -> Result<Vec<u8>, Memory>
     ensures bytes { IfOk result (λ v. v.items ≡ reply_of told.now) }
     ensures reads { IfOk result (λ v. IfSome (answer_of told.now) (ReadsAs v.items)) }

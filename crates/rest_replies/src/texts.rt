@@ -1,9 +1,10 @@
 // Texts of replies.
 ghost use Rattle.std.specs.Prelude.{◌≡◌, string_bytes, IfOk};
-ghost use Rattle.rest_replies.specs.Texts.{broker_state_text, endpoint_text, executor_state_text, head_text, head_with, status_text, task_line, task_status_text};
+ghost use Rattle.rest_replies.specs.Texts.{broker_state_text, endpoint_text, executor_state_text, head_text, head_with, last_part, last_part_text, review_state_text, status_text, task_line, task_status_text};
 
 use core_terms::ExecutorState;
 use plan_terms::{BrokerState, Memory};
+use review_board::ReviewState;
 use std::alloc::Global;
 use user_tasks::{Op, Status, id_text};
 use uuid::Uuid;
@@ -105,6 +106,34 @@ pub fn executor_state_text(state: ExecutorState) -> &'static str
         ExecutorState::MovingReplicas => "INTER_BROKER_REPLICA_MOVEMENT_TASK_IN_PROGRESS",
         ExecutorState::MovingLeaders => "LEADER_MOVEMENT_TASK_IN_PROGRESS",
     }
+}
+
+/// How far a request is that waits for its review, or did, in Cruise Control's words.
+pub fn review_state_text(state: ReviewState) -> &'static str
+    ensures { result.now ≡ review_state_text state }
+{
+    match state {
+        ReviewState::PendingReview => "PENDING_REVIEW",
+        ReviewState::Approved => "APPROVED",
+        ReviewState::Submitted => "SUBMITTED",
+        ReviewState::Discarded => "DISCARDED",
+    }
+}
+
+fn last_part(path: &[u8]) -> &[u8]
+    ensures { result.now ≡ last_part path.now }
+{
+    match path.iter().rposition(|b| *b == b'/') {
+        Some(at) => &path[at + 1..],
+        None => path,
+    }
+}
+
+/// The last part of a path.
+pub fn last_part_text(alloc: Global, path: &[u8]) -> Result<String, Memory>
+    ensures { IfOk result (λ text. string_bytes text ≡ last_part_text path.now) }
+{
+    Ok(String::from_utf8_lossy(alloc, last_part(path))?)
 }
 
 // The line of a user task, where the reply carries one.

@@ -3,6 +3,7 @@ use anomaly_detector::Decision;
 use core_terms::{PumpEnd, Reply, StepFault};
 use rest_parse::HttpFault;
 use rest_stream::Stop;
+use review_board::BoardReply;
 
 /// What is told to a client.
 #[derive(Drop)]
@@ -19,4 +20,6 @@ pub enum Told {
     Http(HttpFault),
     /// Why there is no further request.
     Stopped(Stop),
+    /// The board's answer to the event that the request is.
+    Board(BoardReply),
 }

@@ -1,6 +1,10 @@
+pub mod Making
 pub mod Calling
 pub mod Detecting
+pub mod Given
 pub mod Refusing
 pub mod Serving
 pub mod Spared
 pub mod Sessions
+pub mod Meant
+pub mod Starting

@@ -1,12 +1,13 @@
 -- Why there is no further request, and how the link ends then.
-use Rattle.std.proofs.Common.{◌≡◌, ℕ, List, [], Ok, Err, refl, ap, sym, ◌∙◌, append-nil, inl, inr}
+use Rattle.std.proofs.Common.{◌≡◌, ℕ, List, [], Ok, Err, refl, ap, sym, ◌∙◌, append-nil, inl, inr, Bool, false}
 use Rattle.std.specs.Prelude.{Option, Some, None, Result, OnErr, OnOk}
 use Rattle.cc_base.specs.Outside.{IsPrefixOut, appended}
 use Rattle.rest_stream.specs.declared.raw.Stop.{Stop}
 use Rattle.rest_stream.specs.declared.raw.Stop.TheVariants as stop
 use Rattle.rest_replies.specs.declared.told.Told.{Told}
 use Rattle.rest_replies.specs.declared.told.Told.TheVariants as told
-use Rattle.rest_session.specs.Answered.{IsLast, IsRefused, IsReplied, IsReply, IsWritten, end_of}
+use Rattle.rest_session.specs.Answered.{IsLast, IsRefused, IsReplied, IsWritten, end_of}
+use Rattle.rest_session.specs.Pieces.{IsReply}
 use Rattle.rest_session.specs.declared.session.LinkEnd.{LinkEnd}
 use Rattle.rest_session.specs.declared.session.LinkEnd.TheVariants as end
 
@@ -20,15 +21,15 @@ written_by : {E : Type 0} (old new : Option (List ℕ)) (reply : List ℕ) (r : 
 written_by old new reply (Ok x) p q = p
 written_by old new reply (Err f) p q = q
 
-pub replied_by : {E : Type 0} (t : Told) (old new : Option (List ℕ)) (reply : List ℕ) (r : Result (Unit {0}) E) → IsReply t reply → OnOk r (new ≡ appended old reply) → OnErr r (IsPrefixOut old new reply) → IsReplied t old new r
-replied_by t old new reply r is p q = (reply, is, written_by old new reply r p q)
+pub replied_by : {E : Type 0} (alone : Bool) (t : Told) (old new : Option (List ℕ)) (reply : List ℕ) (r : Result (Unit {0}) E) → IsReply alone t reply → OnOk r (new ≡ appended old reply) → OnErr r (IsPrefixOut old new reply) → IsReplied alone t old new r
+replied_by alone t old new reply r is p q = (reply, is, written_by old new reply r p q)
 
 -- a reason that has no reply
 pub refused_silent : (old : Option (List ℕ)) (why : Stop) (e : LinkEnd) → IsLast why [] → e ≡ end_of why → IsRefused old old why e
 refused_silent old why e last is = inr (is, ([], last, nothing_more old))
 
 -- a reason that has one
-pub last_of : (why : Stop) → (why ≡ stop.End → ⊥) → (why ≡ stop.Truncated → ⊥) → (why ≡ stop.ReadFault → ⊥) → (why ≡ stop.Memory → ⊥) → (reply : List ℕ) → IsReply (told.Stopped why) reply → IsLast why reply
+pub last_of : (why : Stop) → (why ≡ stop.End → ⊥) → (why ≡ stop.Truncated → ⊥) → (why ≡ stop.ReadFault → ⊥) → (why ≡ stop.Memory → ⊥) → (reply : List ℕ) → IsReply false (told.Stopped why) reply → IsLast why reply
 last_of stop.End a b c d reply h = absurd (a refl)
 last_of stop.Truncated a b c d reply h = absurd (b refl)
 last_of stop.ReadFault a b c d reply h = absurd (c refl)
@@ -39,10 +40,10 @@ last_of stop.HeadTooLong a b c d reply h = h
 last_of stop.BodyTooLong a b c d reply h = h
 last_of stop.NoChunked a b c d reply h = h
 
-pub refused_told : (old new : Option (List ℕ)) (why : Stop) (e : LinkEnd) → ((reply : List ℕ) → IsReply (told.Stopped why) reply → IsLast why reply) → e ≡ end_of why → (reply : List ℕ) × IsReply (told.Stopped why) reply × (new ≡ appended old reply) → IsRefused old new why e
+pub refused_told : (old new : Option (List ℕ)) (why : Stop) (e : LinkEnd) → ((reply : List ℕ) → IsReply false (told.Stopped why) reply → IsLast why reply) → e ≡ end_of why → (reply : List ℕ) × IsReply false (told.Stopped why) reply × (new ≡ appended old reply) → IsRefused old new why e
 refused_told old new why e last is h = inr (is, (h.0, last h.0 h.1, h.2))
 
-pub refused_cut : (old new : Option (List ℕ)) (why : Stop) → ((reply : List ℕ) → IsReply (told.Stopped why) reply → IsLast why reply) → (reply : List ℕ) × IsReply (told.Stopped why) reply × IsPrefixOut old new reply → IsRefused old new why end.WriteFault
+pub refused_cut : (old new : Option (List ℕ)) (why : Stop) → ((reply : List ℕ) → IsReply false (told.Stopped why) reply → IsLast why reply) → (reply : List ℕ) × IsReply false (told.Stopped why) reply × IsPrefixOut old new reply → IsRefused old new why end.WriteFault
 refused_cut old new why last h = inl (refl, (h.0, last h.0 h.1, h.2))
 
 -- no reason ends a link by a write fault, and only a read fault by one of its own

@@ -1,62 +1,24 @@
--- The requests of a link, their own entries and their replies.
-use Rattle.std.specs.Prelude.{◌≡◌, ◌≤◌, ℕ, List, [], ◌∷◌, ◌++◌, ◌⊎◌, length, map, take, Option, Some, None, IfSome, Result, Ok, Err}
-use Rattle.std.specs.List.{AllByRecursion}
+-- How the requests of a link were answered, and how it ended.
+use Rattle.std.specs.Prelude.{◌≡◌, ◌≤◌, ℕ, Bool, true, false, List, [], ◌∷◌, ◌++◌, ◌⊎◌, length, take, Option, Some, None, IfSome, is_some, Result, Ok, Err}
 use Rattle.cc_base.specs.Outside.{HasRisen, IsPrefixOut, appended}
 use Rattle.cluster_gate.specs.declared.copier.ChunkCopy.{ChunkCopy}
 use Rattle.core_terms.specs.declared.events.Event.{Event}
 use Rattle.core_terms.specs.declared.faults.StepFault.TheVariants as step
 use Rattle.core_terms.specs.declared.pumps.PumpEnd.TheVariants as pump
 use Rattle.mover_rounds.specs.Asked.{Entry, Known, Rules}
-use Rattle.mover_rounds.specs.Made.{Copies, HasMade}
-use Rattle.rest_parse.specs.Calls.{meaning}
+use Rattle.mover_rounds.specs.Made.{Copies}
 use Rattle.rest_stream.specs.Stream.{Requests, closed, stopped}
 use Rattle.rest_stream.specs.declared.raw.RawRequest.{RawRequest}
 use Rattle.rest_stream.specs.declared.raw.Stop.{Stop}
 use Rattle.rest_stream.specs.declared.raw.Stop.TheVariants as stop
-use Rattle.rest_replies.specs.Answers.{reply_of}
 use Rattle.rest_replies.specs.declared.told.Told.{Told}
 use Rattle.rest_replies.specs.declared.told.Told.TheVariants as told
-use Rattle.rest_session.specs.Calls.{IsCalled}
+use Rattle.review_board.specs.Asked.{BoardEntry, BoardKnown}
+use Rattle.rest_session.specs.Pieces.{ArePieces, IsReply, Piece, asks_head, raws_of, replies_of}
+use Rattle.rest_session.specs.Reviewed.{HasMadeBoth, IsCalledBy}
+use Rattle.rest_session.specs.Starts.{StartsAsGiven}
 use Rattle.rest_session.specs.declared.session.LinkEnd.{LinkEnd}
 use Rattle.rest_session.specs.declared.session.LinkEnd.TheVariants as end
-
--- the reply that tells want of memory
-abbrev pub memory_reply : List ℕ
-memory_reply = reply_of (told.Step step.Memory)
-
--- the reply to what is told; in its place the one that tells want of memory may stand
-abbrev pub IsReply : Told → List ℕ → Type 0
-IsReply t reply = (reply ≡ reply_of t) ⊎ (reply ≡ memory_reply)
-
--- a request with its own entries, the copies made in it, what it is told, and the bytes of its reply
-pub record Piece : Type 0 where
-  pub raw : RawRequest
-  pub told_is : Told
-  pub made : List Entry
-  pub copies : List ChunkCopy
-  pub reply : List ℕ
-
-abbrev pub IsPiece : Rules → List Event → Piece → Type 0
-IsPiece rules seen p = IsCalled rules seen (meaning p.raw) p.told_is p.made p.copies × IsReply p.told_is p.reply
-
--- what the pieces have, one after another
-abbrev pub in_order : {A : Type 0} → (Piece → List A) → List Piece → List A
-in_order f [] = []
-in_order f (p ∷ ps) = f p ++ in_order f ps
-
--- the requests, as they came
-abbrev pub raws_of : List Piece → List RawRequest
-raws_of pieces = map (λ p. p.raw) pieces
-
--- the replies, one after another
-abbrev pub replies_of : List Piece → List ℕ
-replies_of pieces = in_order (λ p. p.reply) pieces
-
--- the own entries and copies fall into consecutive pieces, one for each request
-pub record ArePieces (rules : Rules) (seen : List Event) (pieces : List Piece) (made : List Entry) (copies : List ChunkCopy) : Type 0 where
-  pub are : AllByRecursion (IsPiece rules seen) pieces
-  pub made_is : made ≡ in_order (λ p. p.made) pieces
-  pub copies_are : copies ≡ in_order (λ p. p.copies) pieces
 
 -- the number of the admin's fault that is told, if one is
 abbrev pub fault_told : Told → Option ℕ
@@ -84,7 +46,7 @@ IsLast stop.End reply = reply ≡ []
 IsLast stop.Truncated reply = reply ≡ []
 IsLast stop.ReadFault reply = reply ≡ []
 IsLast stop.Memory reply = reply ≡ []
-IsLast why reply = IsReply (told.Stopped why) reply
+IsLast why reply = IsReply false (told.Stopped why) reply
 
 -- how a link ends for this reason
 abbrev pub end_of : Stop → LinkEnd
@@ -116,16 +78,18 @@ HasEnded left old new pieces end.WriteFault =
     ⊎ ((why : Stop) × (reply : List ℕ) × IsStopped left (raws_of pieces) why reply × IsCutIn old new (replies_of pieces) reply)
 HasEnded left old new pieces e = (why : Stop) × (end_of why ≡ e) × ((reply : List ℕ) × IsStopped left (raws_of pieces) why reply × (new ≡ appended old (replies_of pieces ++ reply)))
 
--- the pieces of a link that ended so, with the number of the admin's last fault before and after them
-pub record IsServed (left old new : Option (List ℕ)) (rules : Rules) (seen : List Event) (before now : ℕ) (e : LinkEnd) (made : List Entry) (copies : List ChunkCopy) : Type 0 where
+-- the pieces of a link that ended so, with the number of the admin's last fault before and after them; where requests are reviewed, it
+-- started what was given out to it
+pub record IsServed (reviews : Bool) (left old new : Option (List ℕ)) (rules : Rules) (seen : List Event) (before now : ℕ) (e : LinkEnd) (noted : List BoardEntry) (made : List Entry) (copies : List ChunkCopy) : Type 0 where
   pub pieces : List Piece
-  pub are : ArePieces rules seen pieces made copies
+  pub are : ArePieces reviews rules seen pieces noted made copies
   pub blamed : AreBlamed before now pieces
   pub ended : HasEnded left old new pieces e
+  pub given : reviews ≡ true → StartsAsGiven pieces noted made
 
 -- the requests of a link were answered, each by its own entries, up to its end
-abbrev pub HasServed : Known → Known → Copies → Copies → Option (List ℕ) → Option (List ℕ) → Option (List ℕ) → LinkEnd → Type 0
-HasServed v w k l left old new e = HasMade (IsServed left old new v.rules w.seen v.blamed w.blamed e) v w k l
+abbrev pub HasServed : Known → Known → Option BoardKnown → Option BoardKnown → Copies → Copies → Option (List ℕ) → Option (List ℕ) → Option (List ℕ) → LinkEnd → Type 0
+HasServed v w x y k l left old new e = HasMadeBoth (IsServed (is_some x) left old new v.rules w.seen v.blamed w.blamed e) v w x y k l
 
 -- a reply was written, whole or, before an error, a prefix of it
 abbrev pub IsWritten : {E : Type 0} → Option (List ℕ) → Option (List ℕ) → Result (Unit {0}) E → List ℕ → Type 0
@@ -133,20 +97,20 @@ IsWritten old new (Ok done) reply = new ≡ appended old reply
 IsWritten old new (Err fault) reply = IsPrefixOut old new reply
 
 -- one request was answered
-pub record IsAnswered {E : Type 0} (raw : RawRequest) (old new : Option (List ℕ)) (result : Result (Unit {0}) E) (rules : Rules) (seen : List Event) (before now : ℕ) (made : List Entry) (copies : List ChunkCopy) : Type 0 where
+pub record IsAnswered {E : Type 0} (reviews : Bool) (raw : RawRequest) (old new : Option (List ℕ)) (result : Result (Unit {0}) E) (rules : Rules) (seen : List Event) (before now : ℕ) (noted : List BoardEntry) (made : List Entry) (copies : List ChunkCopy) : Type 0 where
   pub told_is : Told
   pub reply : List ℕ
   pub blamed : IsBlamed (fault_told told_is) before now
-  pub called : IsCalled rules seen (meaning raw) told_is made copies
-  pub reply_is : IsReply told_is reply
+  pub called : IsCalledBy reviews rules seen raw told_is made copies noted
+  pub reply_is : IsReply (asks_head raw) told_is reply
   pub written : IsWritten old new result reply
 
-abbrev pub HasAnswered : {E : Type 0} → Known → Known → Copies → Copies → RawRequest → Option (List ℕ) → Option (List ℕ) → Result (Unit {0}) E → Type 0
-HasAnswered v w k l raw old new result = HasMade (IsAnswered raw old new result v.rules w.seen v.blamed w.blamed) v w k l
+abbrev pub HasAnswered : {E : Type 0} → Known → Known → Option BoardKnown → Option BoardKnown → Copies → Copies → RawRequest → Option (List ℕ) → Option (List ℕ) → Result (Unit {0}) E → Type 0
+HasAnswered v w x y k l raw old new result = HasMadeBoth (IsAnswered (is_some x) raw old new result v.rules w.seen v.blamed w.blamed) v w x y k l
 
 -- a reply to what is told was written
-abbrev pub IsReplied : {E : Type 0} → Told → Option (List ℕ) → Option (List ℕ) → Result (Unit {0}) E → Type 0
-IsReplied t old new result = (reply : List ℕ) × IsReply t reply × IsWritten old new result reply
+abbrev pub IsReplied : {E : Type 0} → Bool → Told → Option (List ℕ) → Option (List ℕ) → Result (Unit {0}) E → Type 0
+IsReplied alone t old new result = (reply : List ℕ) × IsReply alone t reply × IsWritten old new result reply
 
 -- the reason why there is no further request was told, if it has a reply; or the write failed
 abbrev pub IsRefused : Option (List ℕ) → Option (List ℕ) → Stop → LinkEnd → Type 0

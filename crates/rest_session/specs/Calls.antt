@@ -1,6 +1,7 @@
 -- What a request asks of the core, and what it is told.
-use Rattle.std.specs.Prelude.{◌≡◌, ◌⊎◌, ℕ, List, [], ◌∷◌, Result, Ok, Err}
+use Rattle.std.specs.Prelude.{◌≡◌, ◌⊎◌, ℕ, false, List, [], ◌∷◌, Result, Ok, Err}
 use Rattle.cluster_gate.specs.declared.copier.ChunkCopy.{ChunkCopy}
+use Rattle.core_terms.specs.History.{is_outward}
 use Rattle.core_terms.specs.declared.events.Event.{Event}
 use Rattle.core_terms.specs.declared.events.Event.TheVariants as event
 use Rattle.anomaly_detector.specs.Decided.{decided}
@@ -10,7 +11,7 @@ use Rattle.core_terms.specs.declared.faults.StepFault.TheVariants as step
 use Rattle.core_terms.specs.declared.replies.Reply.{Reply}
 use Rattle.core_terms.specs.declared.replies.Reply.TheVariants as reply
 use Rattle.mover_rounds.specs.Asked.{Entry, HasAsked, IsUnasked, Known, Rules, reply_to}
-use Rattle.mover_rounds.specs.Made.{Copies, HasMade, IsPumped}
+use Rattle.mover_rounds.specs.Made.{Copies, HasMade, IsPumped, failed_in}
 use Rattle.rest_parse.specs.Calls.{UnlessMemory}
 use Rattle.rest_parse.specs.declared.calls.Call.{Call}
 use Rattle.rest_parse.specs.declared.calls.Call.TheVariants as call
@@ -30,6 +31,11 @@ asked_by (call.Show query) = asked.Once (event.Show query)
 asked_by (call.Pump steps) = asked.Rounds steps
 asked_by (call.Detect now alert heal) = asked.Detects now alert heal
 asked_by (call.Caps of_broker of_cluster of_leaders) = asked.Once (event.Caps (record { broker = of_broker; cluster = of_cluster; leader = of_leaders }))
+
+-- the same where what starts something is reviewed first: a fix is told, and not asked
+abbrev pub plainly_asked : Call → Asked
+plainly_asked (call.Detect now alert heal) = asked.Looks now alert heal
+plainly_asked c = asked_by c
 
 -- no entry, and no copy
 abbrev pub IsNothing : List Entry → List ChunkCopy → Type 0
@@ -55,6 +61,18 @@ pub record IsDetected (rules : Rules) (now alert heal : ℕ) (t : Told) (made : 
   pub asks : look.event ≡ event.Look now
   pub looked : IsLooked rules now alert heal (reply_to rules look) t rest
 
+-- what is told of a look that was answered so: where it shows which brokers are lost, what is decided by that; else the answer
+abbrev pub is_told_of : ℕ → ℕ → ℕ → Reply → Told
+is_told_of now alert heal (reply.Looked v) = told.Decided (decided now alert heal v.since v.case v.lists)
+is_told_of now alert heal r = told.Core r
+
+-- a look at this moment, of which is told what it calls for
+pub record IsShown (rules : Rules) (now alert heal : ℕ) (t : Told) (made : List Entry) : Type 0 where
+  pub look : Entry
+  pub made_is : made ≡ look ∷ []
+  pub asks : look.event ≡ event.Look now
+  pub told_is : t ≡ is_told_of now alert heal (reply_to rules look)
+
 -- no entry, or the look alone
 abbrev pub IsCutShort : ℕ → List Entry → Type 0
 IsCutShort now made = (made ≡ []) ⊎ ((x : Entry) × (made ≡ x ∷ []) × (x.event ≡ event.Look now))
@@ -69,6 +87,9 @@ IsDone rules seen (asked.Rounds n) (told.Pump end) made copies = IsPumped rules 
 IsDone rules seen (asked.Detects now alert heal) (told.Core r) made copies = IsDetected rules now alert heal (told.Core r) made × (copies ≡ [])
 IsDone rules seen (asked.Detects now alert heal) (told.Decided d) made copies = IsDetected rules now alert heal (told.Decided d) made × (copies ≡ [])
 IsDone rules seen (asked.Detects now alert heal) (told.Step f) made copies = (f ≡ step.Memory) × IsCutShort now made × (copies ≡ [])
+IsDone rules seen (asked.Looks now alert heal) (told.Core r) made copies = IsShown rules now alert heal (told.Core r) made × (copies ≡ [])
+IsDone rules seen (asked.Looks now alert heal) (told.Decided d) made copies = IsShown rules now alert heal (told.Decided d) made × (copies ≡ [])
+IsDone rules seen (asked.Looks now alert heal) (told.Step f) made copies = (f ≡ step.Memory) × IsCutShort now made × (copies ≡ [])
 IsDone rules seen _ _ made copies = ⊥
 
 -- the same of what a request means: a call; or a fault, which is told and has no entry. Where memory runs out before it is known what
@@ -88,15 +109,21 @@ abbrev pub HasHealed : Known → Known → Decision → Told → Type 0
 HasHealed v w (decision.Fix why ask) t = IsAskedOnce v w (event.Heal why ask) t
 HasHealed v w d t = (w ≡ v) × (t ≡ told.Decided d)
 
--- what follows a look that was answered so: where it shows which brokers are lost, what is decided by that is done, or there was no
--- memory for it; any other answer is told
-abbrev pub HasFollowed : Known → Known → ℕ → ℕ → ℕ → Reply → Told → Type 0
-HasFollowed v w now alert heal (reply.Looked s) t = HasHealed v w (decided now alert heal s.since s.case s.lists) t ⊎ ((w ≡ v) × (t ≡ told.Step step.Memory))
-HasFollowed v w now alert heal r t = (w ≡ v) × (t ≡ told.Core r)
+-- what a look that was answered so calls for
+abbrev pub IsDecidedBy : ℕ → ℕ → ℕ → Reply → Decision → Type 0
+IsDecidedBy now alert heal (reply.Looked s) d = d ≡ decided now alert heal s.since s.case s.lists
+IsDecidedBy now alert heal r d = ⊥
 
--- what a call has made, and what a request has
+-- what is told of a look at once: an answer that shows nothing, or that there is no memory to decide
+abbrev pub IsToldAtOnce : Reply → Told → Type 0
+IsToldAtOnce (reply.Looked s) t = t ≡ told.Step step.Memory
+IsToldAtOnce r t = t ≡ told.Core r
+
+-- what is asked calls nothing outside
+abbrev pub IsInward : Asked → Type 0
+IsInward (asked.Once e) = (is_outward e ≡ false) × (failed_in e ≡ 0)
+IsInward _ = Unit {0}
+
+-- what a call has made
 abbrev pub HasDone : Known → Known → Copies → Copies → Asked → Told → Type 0
 HasDone v w k l a t = HasMade (IsDone v.rules w.seen a t) v w k l
-
-abbrev pub HasCalled : Known → Known → Copies → Copies → Result Call HttpFault → Told → Type 0
-HasCalled v w k l meaning t = HasMade (IsCalled v.rules w.seen meaning t) v w k l

@@ -1,5 +1,5 @@
 -- Where fixes come from: a fix is an event that the anomaly detector asks.
-use Rattle.std.specs.Prelude.{◌≡◌, ℕ, Bool, true, false, List, Result, Ok}
+use Rattle.std.specs.Prelude.{◌≡◌, ℕ, Bool, true, false, List, Ok}
 use Rattle.std.specs.List.{AllByRecursion}
 use Rattle.core_terms.specs.declared.events.Event.{Event}
 use Rattle.core_terms.specs.declared.events.Event.TheVariants as event
@@ -7,7 +7,7 @@ use Rattle.mover_rounds.specs.Asked.{Entry, Rules}
 use Rattle.mover_rounds.specs.Rounds.{IsRound, Standing}
 use Rattle.rest_parse.specs.Calls.{meaning}
 use Rattle.rest_parse.specs.declared.calls.Call.TheVariants as call
-use Rattle.rest_session.specs.Answered.{IsPiece, Piece}
+use Rattle.rest_session.specs.Pieces.{IsPiece, Piece}
 
 -- a fix
 abbrev pub is_heal : Event → Bool
@@ -20,7 +20,7 @@ HasNoFix made = AllByRecursion (λ x. is_heal x.event ≡ false) made
 
 -- the entries of a request that asks nothing of the detector have none
 abbrev pub OnlyDetectsHeal : Type 0
-OnlyDetectsHeal = (rules : Rules) (seen : List Event) (p : Piece) → IsPiece rules seen p → ((now alert heal : ℕ) → meaning p.raw ≡ Ok (call.Detect now alert heal) → ⊥) → HasNoFix p.made
+OnlyDetectsHeal = (rules : Rules) (seen : List Event) (p : Piece) → IsPiece false rules seen p → ((now alert heal : ℕ) → meaning p.raw ≡ Ok (call.Detect now alert heal) → ⊥) → HasNoFix p.made
 
 -- nor have those of a round
 abbrev pub RoundsHealNothing : Type 0

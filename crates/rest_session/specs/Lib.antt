@@ -1,4 +1,7 @@
 pub mod Calls
-pub mod Answered
+pub mod Reviewed
+pub mod Pieces
 pub mod Heals
+pub mod Starts
+pub mod Answered
 pub mod Sessions

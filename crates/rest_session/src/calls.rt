@@ -1,7 +1,7 @@
 // What a call asks of the core.
 ghost use Rattle.std.specs.Prelude.{◌≡◌};
 ghost use Rattle.rest_parse.specs.Calls.{IsInRange};
-ghost use Rattle.rest_session.specs.Calls.{asked_by};
+ghost use Rattle.rest_session.specs.Calls.{asked_by, plainly_asked};
 
 use core_terms::{CapChange, Event};
 use rest_parse::Call;
@@ -13,6 +13,8 @@ pub enum Asked {
     Once(Event),
     /// So many rounds.
     Rounds(u32),
+    /// A look at this moment, of which is told what it calls for, with the ages of `Detects`.
+    Looks(u64, u64, u64),
     /// A look at this moment, and the fix that it calls for: from which age on a lost broker is
     /// told, and from which it is removed. All are in milliseconds.
     Detects(u64, u64, u64),
@@ -36,5 +38,16 @@ pub fn asked_by(call: Call) -> Asked
             Asked::Once(Event::Caps(CapChange::new(broker, cluster, leader)))
         }
         Call::Detect(now, alert, heal) => Asked::Detects(now, alert, heal),
+    }
+}
+
+/// The same where what starts something is reviewed first: a fix is told, and not asked.
+pub fn plainly_asked(call: Call) -> Asked
+    requires { IsInRange call }
+    ensures { result ≡ plainly_asked call }
+{
+    match call {
+        Call::Detect(now, alert, heal) => Asked::Looks(now, alert, heal),
+        call => asked_by(call),
     }
 }

@@ -5,10 +5,11 @@
 mod answer;
 mod calls;
 mod laws;
+mod reviewed;
 mod session;
 mod whole;
 
-pub use calls::{Asked, asked_by};
+pub use calls::{Asked, asked_by, plainly_asked};
 pub use laws::only_detects_heal;
 pub use session::{LinkEnd, serve};
 pub use whole::{SessionEnd, finish, run_session};

@@ -11,6 +11,7 @@ use mover_rounds::Asker;
 use rest_parse::Routes;
 use rest_replies::Told;
 use rest_stream::{Reader, Stop};
+use review_board::Reviewer;
 use std::alloc::Global;
 use std::thread::Threads;
 
@@ -58,7 +59,7 @@ fn refuse<L: Link>(alloc: Global, link: &mut L, why: Stop) -> LinkEnd
 {
     match why {
         Stop::End | Stop::Truncated | Stop::ReadFault | Stop::Memory => end_of(why),
-        _ => match write_reply(alloc, link, &Told::Stopped(why)) {
+        _ => match write_reply(alloc, link, &Told::Stopped(why), false) {
             Ok(()) => end_of(why),
             Err(_) => LinkEnd::WriteFault,
         },
@@ -66,10 +67,11 @@ fn refuse<L: Link>(alloc: Global, link: &mut L, why: Stop) -> LinkEnd
 }
 
 // Answers requests until the link ends.
-fn serve_with<X: Asker, K: Copier, L: Link, R: Threads + Sync>(
+fn serve_with<X: Asker, V: Reviewer, K: Copier, L: Link, R: Threads + Sync>(
     rt: &R,
     alloc: Global,
     asker: &mut X,
+    reviewer: &mut V,
     copier: &mut K,
     routes: &Routes,
     mut reader: Reader,
@@ -79,7 +81,9 @@ fn serve_with<X: Asker, K: Copier, L: Link, R: Threads + Sync>(
     requires { reader ≡ record { held = []; given = 0; ended = None } }
     // What was asked, and what the link was answered.
     ensures since { X.since asker.old asker.new }
+    ensures since_board { V.since reviewer.old reviewer.new }
     ensures served { HasServed (X.known asker.old) (X.known asker.new)
+        (V.board reviewer.old) (V.board reviewer.new)
         (copier_of K.copies K.faults copier.old) (copier_of K.copies K.faults copier.new)
         (L.left link.old) (L.written link.old) (L.written link.new) result }
     // Faults are counted, and an end for a fault has one.
@@ -93,7 +97,7 @@ fn serve_with<X: Asker, K: Copier, L: Link, R: Threads + Sync>(
     loop {
         match reader.next(alloc, link).into_result() {
             Ok(raw) => {
-                if answer(rt, alloc, asker, copier, routes, &raw, link).is_err() {
+                if answer(rt, alloc, asker, reviewer, copier, routes, &raw, link).is_err() {
                     return LinkEnd::WriteFault;
                 }
                 if raw.closes {
@@ -107,15 +111,18 @@ fn serve_with<X: Asker, K: Copier, L: Link, R: Threads + Sync>(
 
 /// Answers the requests of a link in their order, each by the reply to its own entries, until the
 /// link ends.
-pub fn serve<X: Asker, K: Copier, L: Link, R: Threads + Sync>(
+pub fn serve<X: Asker, V: Reviewer, K: Copier, L: Link, R: Threads + Sync>(
     rt: &R,
     alloc: Global,
     asker: &mut X,
+    reviewer: &mut V,
     copier: &mut K,
     link: &mut L,
 ) -> LinkEnd
     ensures since { X.since asker.old asker.new }
+    ensures since_board { V.since reviewer.old reviewer.new }
     ensures served { HasServed (X.known asker.old) (X.known asker.new)
+        (V.board reviewer.old) (V.board reviewer.new)
         (copier_of K.copies K.faults copier.old) (copier_of K.copies K.faults copier.new)
         (L.left link.old) (L.written link.old) (L.written link.new) result }
     ensures source { L.Source.faults link.old ≤ L.Source.faults link.new }
@@ -131,5 +138,5 @@ pub fn serve<X: Asker, K: Copier, L: Link, R: Threads + Sync>(
     let Ok(reader) = Reader::new(alloc) else {
         return LinkEnd::Memory;
     };
-    serve_with(rt, alloc, asker, copier, &routes, reader, link)
+    serve_with(rt, alloc, asker, reviewer, copier, &routes, reader, link)
 }

@@ -19,6 +19,7 @@ use control_core::Book;
 use core_laws::every_history;
 use core_terms::Event;
 use mover_rounds::{DrainEnd, drain};
+use review_board::Reviewer;
 use std::alloc::Global;
 use std::thread::Threads;
 
@@ -68,10 +69,11 @@ pub fn finish<A: Admin, K: Copier, R: Threads + Sync>(
 
 /// Answers the requests of a link over a book that was just opened, then asks Close, then makes
 /// rounds until no task and no job is unfinished.
-pub fn run_session<A: Admin, K: Copier, L: Link, R: Threads + Sync>(
+pub fn run_session<A: Admin, V: Reviewer, K: Copier, L: Link, R: Threads + Sync>(
     rt: &R,
     alloc: Global,
     book: &mut Book<A>,
+    reviewer: &mut V,
     copier: &mut K,
     link: &mut L,
 ) -> SessionEnd
@@ -79,7 +81,9 @@ pub fn run_session<A: Admin, K: Copier, L: Link, R: Threads + Sync>(
     requires { book.old.journal ≡ [] }
     // What was done: a session, a Close, a drain.
     ensures since { IsSince A.faults book.old book.new }
-    ensures session { IsSession book.old book.new (copier_of K.copies K.faults copier.old)
+    ensures since_board { V.since reviewer.old reviewer.new }
+    ensures session { IsSession book.old book.new (V.board reviewer.old) (V.board reviewer.new)
+        (copier_of K.copies K.faults copier.old)
         (copier_of K.copies K.faults copier.new) (L.left link.old) (L.written link.old)
         (L.written link.new) result }
     // How the drain ended.
@@ -94,7 +98,7 @@ pub fn run_session<A: Admin, K: Copier, L: Link, R: Threads + Sync>(
     ensures write_fault { result.link ≡ LinkEnd.WriteFault
         → HasRisen (L.Sink.faults link.old) (L.Sink.faults link.new) }
 {
-    let ended = serve(rt, alloc, book, copier, link);
+    let ended = serve(rt, alloc, book, reviewer, copier, link);
     close(book);
     let drain = finish(rt, alloc, book, copier);
     SessionEnd { link: ended, drain }

@@ -4,6 +4,7 @@ ghost use Rattle.std.specs.Prelude.{◌≡◌, Some, refl};
 use crate::sink::GateSink;
 use crate::source::GateSource;
 use cc_base::{Failed, Link, Sink, Source};
+use net_links::Connection;
 
 /// A link in memory. It gives its last bytes only once the link that was made with it has taken a
 /// byte.
@@ -65,4 +66,9 @@ impl Link for GateLink {
     ghost beside_source = { λ _. refl };
 
     ghost beside_sink = { λ _. refl };
+}
+
+/// There is no connection to close.
+impl Connection for GateLink {
+    fn close(&mut self) {}
 }

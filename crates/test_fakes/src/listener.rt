@@ -6,7 +6,7 @@ ghost use Rattle.net_links.specs.Links.{IsFresh, with_link};
 ghost use Rattle.test_fakes.specs.Handed.{AreFresh, accepted_link, handed_out};
 
 use cc_base::{Failed, Link};
-use net_links::Listener;
+use net_links::{Connection, Listener};
 use std::snapshot::Snapshot;
 use std::vec::IntoIter;
 
@@ -21,7 +21,7 @@ pub struct MemoryListener<C: Link> {
         ≡ handed_out given.value.items (into_iter_items waiting) ++ into_iter_items waiting ∥₁ },
 }
 
-impl<C: Link> MemoryListener<C> {
+impl<C: Connection> MemoryListener<C> {
     /// A listener that hands out these links, in their order. Nothing was written to any of them.
     pub fn new(links: Vec<C>) -> Self
         requires { AreFresh C.written links.items }
@@ -38,7 +38,7 @@ impl<C: Link> MemoryListener<C> {
     }
 }
 
-impl<C: Link> Listener for MemoryListener<C> {
+impl<C: Connection> Listener for MemoryListener<C> {
     type Conn = C;
 
     ghost faults = { λ m. m.faults };

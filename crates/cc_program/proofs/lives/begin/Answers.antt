@@ -3,7 +3,8 @@ use Rattle.std.specs.Prelude.{IfSome}
 use Rattle.cluster_json.specs.File.{Meaning}
 use Rattle.cluster_json.specs.Views.{file_seen}
 use Rattle.control_core.specs.Books.{BookView}
-use Rattle.cc_program.specs.Lives.{IsOver, crew_told, gate}
+use Rattle.live_service.specs.Asked.{crew_told}
+use Rattle.cc_program.specs.Lives.{IsOver, gate}
 use Rattle.cc_program.proofs.Inserted.{left_begun}
 use Rattle.cc_program.proofs.lives.begin.Goals as goal
 

@@ -7,7 +7,8 @@ use Rattle.live_service.specs.Views.{LinkView, NetView, ServedView, link_of}
 use Rattle.live_service.specs.declared.service.Served.{Served}
 use Rattle.load_model.proofs.Listed.{list_any-map}
 use Rattle.mover_rounds.specs.Made.{Copies}
-use Rattle.cc_program.specs.Lives.{any_want, copiers_before, crew_told, ended_live, is_loop_want, is_want, wanted}
+use Rattle.live_service.specs.Asked.{crew_told}
+use Rattle.cc_program.specs.Lives.{any_want, copiers_before, ended_live, is_loop_want, is_want, wanted}
 use Rattle.cc_program.specs.Outside.{OutsideView}
 use Rattle.cc_program.proofs.Inserted.{links_counted}
 use Rattle.cc_program.proofs.lives.live.Goals as goal
@@ -19,7 +20,7 @@ pub returns-in-Ok-clause-over : goal.returns-in-Ok-clause-over
 returns-in-Ok-clause-over g c = λ outside h.
     let live = c.in-Ok.live in
     let crew = crew_told c.args.crew in
-    let at_is : c.copiers_before-at.result ≡ copiers_before crew = c.copiers_before-at.ensures ∙ ap (λ (n : ℕ). c.args.crew.workers.movers + n) (links_counted c.args.crew.serving) in
+    let at_is : c.copiers_before-at.result ≡ copiers_before crew = c.copiers_before-at.ensures ∙ ap (λ (n : ℕ). c.args.crew.movers + n) (links_counted c.args.crew.serving) in
     let served : Served g.row.N-Conn.Denot → ServedView = λ x. record { link = link_of g.N.Conn.Source.left g.N.Conn.Sink.written g.N.Conn.Source.faults g.N.Conn.Sink.faults x.link; end = x.end } in
     let inside = c.left.inside in
     let loops : Bool = list_any is_loop_want inside.movers.items || list_any is_loop_want inside.planners.items in
@@ -44,6 +45,8 @@ returns-in-Ok-clause-over g c = λ outside h.
           movers = refl;
           planners = refl;
         };
+        board = c.in-Ok.live.board;
+        board_is = c.board_left-board.ensures;
         live = c.in-Ok.ensures.live;
         legal = c.in-Ok.ensures.legal;
         lists = c.in-Ok.ensures.lists;
@@ -59,15 +62,15 @@ returns-in-Err-clause-over g c = λ outside h.
     let back = c.in-Err.ensures.handed_back in
     let front = c.args.team.front in
     let crew = crew_told c.args.crew in
-    let at_is : c.copiers_before-at.result ≡ copiers_before crew = c.copiers_before-at.ensures ∙ ap (λ (n : ℕ). c.args.crew.workers.movers + n) (links_counted c.args.crew.serving) in
+    let at_is : c.copiers_before-at.result ≡ copiers_before crew = c.copiers_before-at.ensures ∙ ap (λ (n : ℕ). c.args.crew.movers + n) (links_counted c.args.crew.serving) in
     let copiers : insert front.service.copiers c.copiers_before-at.result front.copier ≡ outside.copiers = ap (λ (n : ℕ). insert front.service.copiers n front.copier) at_is ∙ sym h.copiers in
     let same = ap (λ (k : List Copies). outside_of k front.console front.service.net) copiers ∙ (ap (λ (x : LinkView). outside_of outside.copiers x front.service.net) (sym h.console) ∙ ap (λ (x : NetView). outside_of outside.copiers outside.console x) (sym h.net)) in
-    rw c.left_of.ensures (rw (back.0, back.1) (inl (
+    rw c.left_of-left-in-Err.ensures (rw (back.0, back.1) (inl (
       refl,
       record {
         opening = c.requires.opened;
         begun = refl;
         lists = c.journal-lists.ensures.lists;
-        idle = record { outside = same; links = c.requires.ready.none; movers = c.requires.ready.no_mover; planners = c.requires.ready.no_planner; drain = refl };
+        idle = record { outside = same; links = c.requires.ready.none; movers = c.requires.ready.no_mover; planners = c.requires.ready.no_planner; board = refl; drain = refl };
       },
     )))

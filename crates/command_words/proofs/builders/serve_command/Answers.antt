@@ -2,7 +2,7 @@ use Rattle.std.proofs.Common.{◌≡◌, ◌∙◌, ap₂, false, ◌||◌, code
 use Rattle.std.proofs.lemmas.Result.{IfOk-weaker}
 use Rattle.clap.specs.Words.{app_of, new_app, with_rule}
 use Rattle.clap.specs.declared.builder.command.Command.TheViews.{out-Command}
-use Rattle.command_words.specs.Arguments.{file_rule, listen_rule, movers_rule, planners_rule}
+use Rattle.command_words.specs.Arguments.{file_rule, links_rule, listen_rule, movers_rule, planners_rule}
 use Rattle.command_words.proofs.builders.serve_command.Goals as goal
 
 pub returns : goal.returns
@@ -17,7 +17,9 @@ returns c =
     let l3 : (out-Command c.in_ok-with_planners.with_planners).has_globals ≡ false = c.in_ok-with_planners.ensures.globals ∙ ap₂ ◌||◌ l2 c.planners.ensures.local in
     let s4 : app_of c.in_ok-with_listen.with_listen ≡ with_rule (with_rule (with_rule (with_rule (new_app (codes "serve")) file_rule) movers_rule) planners_rule) listen_rule = c.in_ok-with_listen.ensures.shape c.listen.ensures.local ∙ ap₂ with_rule s3 c.listen.ensures.rule in
     let l4 : (out-Command c.in_ok-with_listen.with_listen).has_globals ≡ false = c.in_ok-with_listen.ensures.globals ∙ ap₂ ◌||◌ l3 c.listen.ensures.local in
+    let s5 : app_of c.in_ok-with_links.with_links ≡ with_rule (with_rule (with_rule (with_rule (with_rule (new_app (codes "serve")) file_rule) movers_rule) planners_rule) listen_rule) links_rule = c.in_ok-with_links.ensures.shape c.links.ensures.local ∙ ap₂ with_rule s4 c.links.ensures.rule in
+    let l5 : (out-Command c.in_ok-with_links.with_links).has_globals ≡ false = c.in_ok-with_links.ensures.globals ∙ ap₂ ◌||◌ l4 c.links.ensures.local in
     record {
-      app = IfOk-weaker c.arg-5.result _ _ (λ r h. h.shape c.links.ensures.local ∙ ap₂ with_rule s4 c.links.ensures.rule) c.arg-5.ensures;
-      local = IfOk-weaker c.arg-5.result _ _ (λ r h. h.globals ∙ ap₂ ◌||◌ l4 c.links.ensures.local) c.arg-5.ensures;
+      app = IfOk-weaker c.arg-6.result _ _ (λ r h. h.shape c.review.ensures.local ∙ ap₂ with_rule s5 c.review.ensures.rule) c.arg-6.ensures;
+      local = IfOk-weaker c.arg-6.result _ _ (λ r h. h.globals ∙ ap₂ ◌||◌ l5 c.review.ensures.local) c.arg-6.ensures;
     }

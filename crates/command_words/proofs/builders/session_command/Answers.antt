@@ -2,7 +2,7 @@ use Rattle.std.proofs.Common.{◌≡◌, ◌∙◌, ap₂, false, ◌||◌, code
 use Rattle.std.proofs.lemmas.Result.{IfOk-weaker}
 use Rattle.clap.specs.Words.{app_of, new_app, with_rule}
 use Rattle.clap.specs.declared.builder.command.Command.TheViews.{out-Command}
-use Rattle.command_words.specs.Arguments.{file_rule, movers_rule}
+use Rattle.command_words.specs.Arguments.{file_rule, movers_rule, planners_rule}
 use Rattle.command_words.proofs.builders.session_command.Goals as goal
 
 pub returns : goal.returns
@@ -13,7 +13,9 @@ returns c =
     let l1 : (out-Command c.in_ok-with_file.with_file).has_globals ≡ false = c.in_ok-with_file.ensures.globals ∙ ap₂ ◌||◌ l0 c.file.ensures.local in
     let s2 : app_of c.in_ok-with_movers.with_movers ≡ with_rule (with_rule (new_app (codes "session")) file_rule) movers_rule = c.in_ok-with_movers.ensures.shape c.movers.ensures.local ∙ ap₂ with_rule s1 c.movers.ensures.rule in
     let l2 : (out-Command c.in_ok-with_movers.with_movers).has_globals ≡ false = c.in_ok-with_movers.ensures.globals ∙ ap₂ ◌||◌ l1 c.movers.ensures.local in
+    let s3 : app_of c.in_ok-with_planners.with_planners ≡ with_rule (with_rule (with_rule (new_app (codes "session")) file_rule) movers_rule) planners_rule = c.in_ok-with_planners.ensures.shape c.planners.ensures.local ∙ ap₂ with_rule s2 c.planners.ensures.rule in
+    let l3 : (out-Command c.in_ok-with_planners.with_planners).has_globals ≡ false = c.in_ok-with_planners.ensures.globals ∙ ap₂ ◌||◌ l2 c.planners.ensures.local in
     record {
-      app = IfOk-weaker c.arg-3.result _ _ (λ r h. h.shape c.planners.ensures.local ∙ ap₂ with_rule s2 c.planners.ensures.rule) c.arg-3.ensures;
-      local = IfOk-weaker c.arg-3.result _ _ (λ r h. h.globals ∙ ap₂ ◌||◌ l2 c.planners.ensures.local) c.arg-3.ensures;
+      app = IfOk-weaker c.arg-4.result _ _ (λ r h. h.shape c.review.ensures.local ∙ ap₂ with_rule s3 c.review.ensures.rule) c.arg-4.ensures;
+      local = IfOk-weaker c.arg-4.result _ _ (λ r h. h.globals ∙ ap₂ ◌||◌ l3 c.review.ensures.local) c.arg-4.ensures;
     }

@@ -15,7 +15,8 @@ returns g t c =
     let own = c.split-own.result in
     let one = c.join-back.result.0 in
     let back = one.0 in
-    let u = c.join-back.result.1.0 in
+    let u = c.join-back.result.1.0.book in
+    let board = c.join-back.result.1.0.board in
     let s : TeamView = c.args.team in
     let s1 : TeamView = c.take_copier-copier.new.self in
     let t1 : TeamView = c.join-back.result.1.1 in
@@ -29,8 +30,8 @@ returns g t c =
     let moved : HasMoved (known_by_caller own) (known_by_caller back) k l one.2 = search rules in
     let cause : IsLoopCause (known_by_caller own) (known_by_caller back) one.2 = search rules in
     record {
-      run = mover_more c.args.caller kept own u back c.join.new.self c.split-own.ensures.turn.0 c.split-own.ensures.turn.1 c.split-own.ensures.cut since c.join.ensures.turn c.join.ensures.joined c.join.ensures.own.placed
-          (serving_told c.args.serving) s s1 t1 whole end (ap (λ (x : TeamView). told_of x.front) took) (ap (λ (x : TeamView). told_of x.front) put)
+      run = mover_more c.args.callers.book kept own u back c.join.new.self c.split-own.ensures.turn.0 c.split-own.ensures.turn.1 c.split-own.ensures.cut since c.join.ensures.turn c.join.ensures.joined c.join.ensures.own.placed
+          (serving_told c.args.serving) c.args.callers.board board s s1 t1 whole end (ap (λ (x : TeamView). told_of x.front) took) (ap (λ (x : TeamView). told_of x.front) put)
           k l one.2 c.args.movers _ (search rules)
           c.take_copier-copier.ensures.taken
           (omega (arith, ap (λ (x : TeamView). x.front.service.room) took))
