@@ -1,4 +1,4 @@
-# Completion of sumpharu's arguments for bash: source this file. tools/make-manual writes it.
+# Completion of sumpharu's arguments for bash: source this file. 'sumpharu-tools make-manual' writes it.
 _sumpharu() {
     local word=${COMP_WORDS[COMP_CWORD]}
     local -A options=(

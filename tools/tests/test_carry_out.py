@@ -1,4 +1,4 @@
-"""tools/carry-out, run as an operator runs it, on a cluster of the tests' own: its lines, its statuses, throttles, and how it signs in."""
+"""The tool carry-out, run as an operator runs it, on a cluster of the tests' own: its lines, its statuses, throttles, and how it signs in."""
 import json
 import os
 import pathlib
@@ -6,17 +6,13 @@ import pty
 import shutil
 import signal
 import subprocess
-import sys
 import tempfile
 import time
 import unittest
 
-HERE = pathlib.Path(__file__).resolve().parent
-ROOT = HERE.parents[1]
-sys.path[:0] = [str(HERE.parent / "lib"), str(HERE)]
 from minikafkas import PATIENCE, Minikafka
+from places import TOOLS
 
-TOOL = ROOT / "tools/carry-out"
 QUICK = ("--every", "0.02", "--settle", "0.1", "--timeout", "60")
 PASSWORD = "p\u00e4ss,w=rd"
 
@@ -47,7 +43,7 @@ class CarryOut(unittest.TestCase):
         return self.file("cluster", cluster), self.file("plan", {"version": 1, "partitions": entries})
 
     def tool(self, kafka, files, *words, env=None):
-        words = [TOOL, *files, "--bootstrap", kafka.bootstrap(), *QUICK, *words]
+        words = [TOOLS, "carry-out", *files, "--bootstrap", kafka.bootstrap(), *QUICK, *words]
         ran = subprocess.run(words, capture_output=True, text=True, timeout=PATIENCE, env={**os.environ, **(env or {})})
         return ran.returncode, ran.stdout, ran.stderr
 
@@ -156,7 +152,7 @@ class Runs(CarryOut):
         self.assertEqual(self.lists(kafka)["t", 3], [3, 4])
 
     def start(self, kafka, files, *words):
-        words = [TOOL, *files, "--bootstrap", kafka.bootstrap(), *QUICK, *words]
+        words = [TOOLS, "carry-out", *files, "--bootstrap", kafka.bootstrap(), *QUICK, *words]
         process = subprocess.Popen(words, stdout=subprocess.PIPE, stderr=subprocess.PIPE, text=True)
         self.addCleanup(process.wait, PATIENCE)
         self.addCleanup(process.kill)
@@ -195,7 +191,7 @@ class Runs(CarryOut):
     def test_a_terminal_has_one_line_that_moves(self):
         kafka = self.kafka()
         main, other = pty.openpty()
-        words = [TOOL, *self.files(kafka, PLAN), "--bootstrap", kafka.bootstrap(), *QUICK]
+        words = [TOOLS, "carry-out", *self.files(kafka, PLAN), "--bootstrap", kafka.bootstrap(), *QUICK]
         process = subprocess.Popen(words, stdout=other, stderr=subprocess.PIPE)
         os.close(other)
         data = b""
@@ -325,11 +321,11 @@ class Connections(CarryOut):
         ]
         env = {name: value for name, value in os.environ.items() if name != "SUMPHARU_KAFKA_PASSWORD"}
         for words, wanted in rows:
-            ran = subprocess.run([TOOL, *files, "--bootstrap", "127.0.0.1:1", *words], capture_output=True, text=True, timeout=PATIENCE, env=env)
+            ran = subprocess.run([TOOLS, "carry-out", *files, "--bootstrap", "127.0.0.1:1", *words], capture_output=True, text=True, timeout=PATIENCE, env=env)
             self.assertEqual((ran.returncode, ran.stdout, ran.stderr), (2, "", f"carry-out: {wanted}\n"))
         for words in (("--bootstrap", "here"), ("--bootstrap", "h:0"), ("--bootstrap", "h:1", "--map", "x=h:1"), ("--bootstrap", "h:1", "--looks", "0"),
                       ("--bootstrap", "h:1", "--every", "-1"), ("--bootstrap", "h:1", "--unthrottle", "--back"), ()):
-            ran = subprocess.run([TOOL, *files, *words], capture_output=True, text=True, timeout=PATIENCE)
+            ran = subprocess.run([TOOLS, "carry-out", *files, *words], capture_output=True, text=True, timeout=PATIENCE)
             self.assertEqual((ran.returncode, ran.stdout, ran.stderr.count("\n")), (2, "", 1), words)
 
     @unittest.skipUnless(shutil.which("openssl"), "no openssl makes certificates")

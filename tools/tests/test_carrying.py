@@ -1,16 +1,13 @@
 """The rule by which a plan is carried out, tried on the tests' cluster: random plans under faults, runs killed at each place, and the cases that the rule is
 about. Fifty random plans are tried by each mode's rules in memory, and a few over sockets; SUMPHARU_SEEDS=N and SUMPHARU_SOCKET_SEEDS=N say how many."""
 import os
-import pathlib
-import sys
 import unittest
 
-HERE = pathlib.Path(__file__).resolve().parent
-sys.path[:0] = [str(HERE.parent / "lib"), str(HERE)]
+import places  # has the tools' package found
 import trials
-from carrying import Caps, Phase, Room, Run, Standing, Task, objections
-from kafka_admin import Look
-from kafka_wire import Metadata, Move, Node, Seen
+from sumpharu_tools.carrying import Caps, Phase, Room, Run, Standing, Task, objections
+from sumpharu_tools.kafka_admin import Look
+from sumpharu_tools.kafka_wire import Metadata, Move, Node, Seen
 from minikafkas import InMemory, Minikafka
 
 MODES = ("zk", "kraft")

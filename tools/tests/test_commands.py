@@ -1,15 +1,11 @@
 """The table of commands says what the program's sources take and give."""
-import pathlib
 import re
 import subprocess
-import sys
 import unittest
 
-ROOT = pathlib.Path(__file__).resolve().parents[2]
-sys.path.insert(0, str(ROOT / "tools/lib"))
-from commands import COMMANDS, ENDS, EXAMPLES, NAMES, OPERANDS, OPTIONS
+from places import PROGRAM, ROOT
+from sumpharu_tools.dev.commands import COMMANDS, ENDS, EXAMPLES, NAMES, OPERANDS, OPTIONS
 
-PROGRAM = ROOT / "crates/sumpharu/out/sumpharu"
 WORDS = ROOT / "crates/command_words/src"
 QUIET = ROOT / "crates/quiet_commands/src"
 LIVE = ROOT / "crates/cc_program/src"
@@ -47,7 +43,7 @@ class Commands(unittest.TestCase):
     def test_commands_are_those_that_the_program_runs(self):
         text = (QUIET / "commands.rt").read_text() + (LIVE / "lives.rt").read_text()
         run = {name.lower() for name in re.findall(r"^ +Command::(\w+)\(", text, re.M)}
-        self.assertEqual(set(NAMES), run, "tools/lib/commands.py needs a row for each command; then run tools/make-manual")
+        self.assertEqual(set(NAMES), run, "tools/sumpharu_tools/dev/commands.py needs a row for each command; then run './sumpharu-tools make-manual'")
 
     def test_arguments_are_those_of_the_words(self):
         known = commands()

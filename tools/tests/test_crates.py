@@ -1,9 +1,9 @@
 """crates.txt: each crate lists the libraries that it names, and no other."""
-import pathlib
 import re
 import unittest
 
-ROOT = pathlib.Path(__file__).resolve().parents[2]
+from places import ROOT
+
 # A comment of a .rt or of an .antt file.
 COMMENT = re.compile(r"(//|--).*")
 

@@ -1,16 +1,16 @@
 """The documents' links lead somewhere, their tables have what the sources have, and README's examples print what it shows."""
 import pathlib
 import re
+import shutil
 import subprocess
-import sys
 import tempfile
 import unittest
 
-ROOT = pathlib.Path(__file__).resolve().parents[2]
-sys.path.insert(0, str(ROOT / "tools/lib"))
-import made_pages
-from commands import ENDS, NAMES
-from goals import GOALS
+from places import PROGRAM, ROOT
+from sumpharu_tools import table
+from sumpharu_tools.dev import made_pages
+from sumpharu_tools.dev.commands import ENDS, NAMES
+from sumpharu_tools.goals import GOALS
 
 # Words that stand in texts of the program alone, and so in code; and words that stand for plainer ones.
 FORBIDDEN = (
@@ -19,9 +19,10 @@ FORBIDDEN = (
 )
 PAGES = [ROOT / "README.md", *sorted(ROOT.glob("docs/*.md"))]
 OWN_PAGES = [page for page in PAGES if page.name not in made_pages.WHOLE]
-MADE = re.compile(r"(<!-- made by tools/[\w-]+: \w+ -->\n).*?(<!-- made so far -->)", re.S)
+MADE = re.compile(r"(<!-- made by [\w-]+: \w+ -->\n).*?(<!-- made so far -->)", re.S)
 HEADINGS = [
-    "What it needs",
+    "Prove it yourself",
+    "Install it",
     "Run it",
     "Drain a broker, or take leadership from it",
     "Read a plan",
@@ -30,11 +31,42 @@ HEADINGS = [
     "The promise",
     "Test it",
 ]
-PROGRAM = ROOT / "crates/sumpharu/out/sumpharu"
 # The pages whose names are looked up; what they name of the outside; and words with which an example of more words begins.
 CHECKED = ("ARCHITECTURE.md", "PROVED.md", "CONTRIBUTING.md", "DECISIONS.md")
-OUTSIDE = {"None", "percent_encoding", "rt", "std", "map_err", "main", "?", "u64", "ErrorKind::Interrupted", "thread::join"}
-STARTERS = {"rt", "python3", "grep", "let", "POST"}
+OUTSIDE = {"mypy", "None", "rt", "std", "map_err", "main", "?", "u64", "ErrorKind::Interrupted", "thread::join"}
+# The crates of the kit that those of crates.txt use, and the folder of its sources where it is at hand.
+BELOW = {"fast_float", "json", "md5", "percent_encoding", "rand_core", "ryu", "serde", "sha1", "slab", "strsim"}
+RT = shutil.which("rt")
+KIT = pathlib.Path(RT).resolve().parents[1] / "rattle" if RT else None
+# Numbers of the sources, by file and name, and how pages give each.
+LIMITS = (
+    ("cc_base/src/outside.rt", "MAX_FILE_LEN", 67108864, {"FORMATS": "UTF-8, at most 67,108,864 bytes"}),
+    ("load_model/src/limits.rt", "MAX_BROKERS", 200, {"FORMATS": "At most 200 brokers"}),
+    ("load_model/src/limits.rt", "MAX_TOPICS", 1000, {"FORMATS": "1,000 topics"}),
+    ("load_model/src/limits.rt", "MAX_PARTS", 10000, {"FORMATS": "10,000 partitions"}),
+    ("load_model/src/assign.rt", "MAX_REPLICAS", 8, {"FORMATS": "1 to 8 distinct ids", "PROVED": "one list of 1 to 8 distinct brokers"}),
+    ("metric_windows/src/windows.rt", "MAX_SAMPLES", 65536, {"FORMATS": "already has 65,536 samples"}),
+    ("cluster_gen/src/draws.rt", "MULTIPLIER", 1103515245, {"FORMATS": "x = (1103515245 x + "}),
+    ("cluster_gen/src/draws.rt", "INCREMENT", 12345, {"FORMATS": " x + 12345) modulo 2^31"}),
+    ("cluster_gen/src/partitions.rt", "TOPICS", 50, {"FORMATS": "number i / 50 of the topic `t` followed by i modulo 50"}),
+    ("rest_parse/src/calls.rt", "ALERT_AGE", 900000, {"FORMATS": "`alert_ms` (default 900000)", "SERVICE": "`alert_ms` (15 minutes)"}),
+    ("rest_parse/src/calls.rt", "HEAL_AGE", 1800000, {"FORMATS": "`heal_ms` (default 1800000)", "SERVICE": "`heal_ms` (30 minutes)"}),
+    ("rest_stream/src/heads.rt", "MAX_HEAD", 16384, {"FORMATS": "a head of at most 16,384 bytes", "DECISIONS": "too long at 16,384 bytes"}),
+    ("rest_stream/src/fields.rt", "MAX_FIELDS", 64, {"FORMATS": "and 64 fields", "DECISIONS": "More than 64 fields"}),
+    ("rest_stream/src/fields.rt", "MAX_BODY", 1048576, {"FORMATS": "`Content-Length` says, at most 1,048,576"}),
+    ("user_tasks/src/table.rt", "MAX_OPEN", 16, {"PROVED": "while 16 tasks or more are open", "DECISIONS": "while 16 or more are open"}),
+    ("candidate_order/src/blocks.rt", "BLOCK", 2048, {"GOALS": "a broker with 2,048 replicas or more", "DECISIONS": "in blocks of 2,048"}),
+    ("cc_program/src/entry.rt", "COPIERS", 129, {"DECISIONS": "one for each of 64 movers and 64 connections, and one for"}),
+    ("live_service/src/service.rt", "TRIES", 16, {"SERVICE": "16 attempts in a row", "DECISIONS": "once 16 calls in a row failed"}),
+    ("net_links/src/host.rt", "LAST_READS", 32, {"SERVICE": "up to 1 MiB"}),
+    ("net_links/src/host.rt", "LAST_READ_BYTES", 32768, {"SERVICE": "up to 1 MiB"}),
+    ("net_links/src/host.rt", "LAST_READ_SECONDS", 1, {"SERVICE": "until nothing comes for a second"}),
+)
+STARTERS = {"cd", "rt", "python3", "grep", "let", "POST"}
+# The commands of the tools.
+COMMANDS = {*table.OPERATORS, *table.DEVELOPERS}
+# What the other pages name of HTTP.
+ELSEWHERE = {"Allow", "Date", "Expect"}
 NUMBERS = (
     *("zero", "one", "two", "three", "four", "five", "six", "seven", "eight", "nine", "ten", "eleven", "twelve", "thirteen", "fourteen"),
     *("fifteen", "sixteen", "seventeen", "eighteen", "nineteen", "twenty"),
@@ -86,11 +118,16 @@ def definitions():
 def known_names():
     """Crates and libraries, what sources and definitions define, the tools' functions, and the program's words and texts."""
     texts = sources()
-    tools = {name for path in ROOT.glob("tools/lib/*.py") for name in re.findall(r"^(?:def |class |(?=[A-Z_]+ = ))(\w+)", path.read_text(), re.M)}
+    tools = {name for path in ROOT.glob("tools/sumpharu_tools/**/*.py") for name in re.findall(r"^(?:def |class |(?=[A-Z_]+ = ))(\w+)", path.read_text(), re.M)}
     refused = {text for row in made_pages.refusals().values() for text in row}
     words = set(NAMES) | {name for end in ENDS for name in (end.output, end.line)} | refused
     libraries = {name for names in uses().values() for name in names}
-    return set(uses()) | libraries | items(texts) | methods(texts) | definitions() | tools | words | OUTSIDE
+    return set(uses()) | libraries | items(texts) | methods(texts) | definitions() | tools | words | BELOW | COMMANDS | OUTSIDE
+
+
+def text_of(name):
+    """A page without the ends of its lines."""
+    return " ".join((ROOT / "docs" / f"{name}.md").read_text().split())
 
 
 def is_path(name):
@@ -149,20 +186,50 @@ class Documents(unittest.TestCase):
     def test_names(self):
         """What stands as code in these pages exists: crates, paths, functions, types, definitions, commands and options."""
         known, unknown = known_names(), []
-        files = [ROOT / "sumpharu", *ROOT.glob("tools/*"), *ROOT.glob("tools/lib/*.py"), *ROOT.glob("tools/tests/*.py")]
+        files = [ROOT / "sumpharu", *ROOT.glob("tools/sumpharu_tools/**/*.py"), *ROOT.glob("tools/tests/*.py")]
         tools = "".join(path.read_text() for path in files if path.is_file())
         kit = set((ROOT / "wrong-bodies/tried.txt").read_text().splitlines()[0].split())
         for name in CHECKED:
             for code in code_of(ROOT / "docs" / name):
                 first = code.split()[0]
                 if " " in code:
-                    is_good = code in known or first in STARTERS | set(NAMES) or "/" in first and is_path(first)
+                    is_good = code in known or first in STARTERS | COMMANDS | set(NAMES) or "/" in first and is_path(first)
                 elif code.startswith("--") or "=" in code:
                     is_good = re.search(rf"{re.escape(code.partition('=')[0])}\b", tools)
                 else:
                     is_good = code in known | kit or ("/" in code or "." in code) and is_path(code)
                 unknown += [] if is_good else [f"{name}: {code}"]
         self.assertEqual(unknown, [])
+
+    def test_tools(self):
+        """What the pages have the tools do is one of their commands, by the one entry."""
+        for page in PAGES:
+            text = page.read_text()
+            named = re.findall(r"(?<![\w/])(?:\./)?sumpharu-tools ([a-z-]+)", text)
+            self.assertEqual([name for name in named if name not in COMMANDS], [], page.name)
+            self.assertEqual(re.findall(r"\btools/(?!rows|tests|package|sumpharu_tools)[a-z-]+", text), [], page.name)
+
+    def test_simple_names(self):
+        """A single word that stands as code in the other pages is a name, or a word of a text of the program, the script or a tool."""
+        files = [ROOT / "sumpharu", ROOT / "sumpharu-tools", *ROOT.glob("tools/sumpharu_tools/**/*.py")]
+        texts = [path.read_text() for path in files if path.is_file()]
+        for folder in ("src/*.rt", "specs/*.antt"):
+            texts += re.findall(r'"([^"\n]+)"', "".join(path.read_text() for path in ROOT.glob(f"crates/*/{folder}")))
+        known = known_names() | ELSEWHERE | {word for text in texts for word in re.findall(r"\w+", text)}
+        for page in (page for page in OWN_PAGES if page.name not in CHECKED):
+            words = [code for code in code_of(page) if re.fullmatch(r"[A-Za-z]\w*", code)]
+            self.assertEqual([word for word in words if word not in known], [], page.name)
+
+    def test_options(self):
+        """Each option that a page names is one of the program, the script or a tool, and each example is there; other programs' aside."""
+        files = [ROOT / "sumpharu", ROOT / "sumpharu-tools", *ROOT.glob("tools/sumpharu_tools/**/*.py")]
+        tools = "".join(path.read_text() for path in files if path.is_file())
+        for page in OWN_PAGES:
+            text = re.sub(r"^    (?:curl|kafka-).*$|`(?:rt|curl|kafka-\S+\.sh) [^`]*`", "", own_text(page), flags=re.M)
+            options = set(re.findall(r"(?<![\w-])--[a-z][a-z-]*", text))
+            self.assertEqual([it for it in sorted(options) if not re.search(rf"{it}(?![\w-])", tools)], [], page.name)
+            examples = re.findall(r"\bexamples/[\w.-]*\w", text)
+            self.assertEqual([it for it in examples if not (ROOT / it).exists()], [], page.name)
 
     def test_how_tos(self):
         """A how-to names each file, but tests, that has what its example added."""
@@ -173,7 +240,7 @@ class Documents(unittest.TestCase):
             "How to add an endpoint with a new event of the core": r"\b(?:[eE]vent(?:\.|::)Look|[cC]all(?:\.|::)Detect|[eE]ndpoint(?:\.|::)Detect)\b",
         }
         files = [path for folder in ("src", "specs", "proofs") for path in ROOT.glob(f"crates/*/{folder}/**/*") if path.suffix in (".rt", ".antt")]
-        files = [path for path in files if "_tests/" not in str(path)] + list(ROOT.glob("tools/lib/*.py"))
+        files = [path for path in files if "_tests/" not in str(path)] + list(ROOT.glob("tools/sumpharu_tools/**/*.py"))
         for title, pattern in examples.items():
             part = page.partition(f"\n## {title}\n")[2].partition("\n## ")[0]
             touched = [path.relative_to(ROOT) for path in files if re.search(pattern, path.read_text())]
@@ -198,12 +265,58 @@ class Documents(unittest.TestCase):
             name = left.pop()
             left += [it for it in below.get(name, ()) if it in below and it not in used]
             used.add(name)
-        tests = text.partition("\nThe program doesn't use these crates")[2].partition("\n\n")[0]
+        tests = text.partition("\nThese crates are tests:")[2].partition("\n\n")[0]
         self.assertEqual(set(re.findall(r"`(\w+)`", tests)), set(below) - used)
         self.assertEqual([name for name in below if f"`{name}`" not in text], [])
         trusted = text.partition("\n## What is trusted\n")[2].partition("\n## ")[0]
         libraries = {lib for libs in below.values() for lib in libs} - set(below)
-        self.assertEqual([lib for lib in sorted(libraries) if f"`{lib}`" not in trusted], [])
+        self.assertEqual([lib for lib in sorted(libraries | BELOW) if f"`{lib}`" not in trusted], [])
+        adapters = {name for name in items(sources()) if re.match(r"Host\w", name)}
+        self.assertEqual(set(re.findall(r"`(Host\w+)`", trusted)), adapters)
+
+    @unittest.skipUnless(KIT and KIT.is_dir(), "the kit's sources aren't at hand")
+    def test_kit(self):
+        """The kit's crates that are trusted are those of crates.txt, with all that these use."""
+        known = {path.stem for path in KIT.parent.glob("rlibs/*.rlib")}
+        known -= {name for name in known if re.match(r"std|core$|os$", name)}
+        named = {lib for libs in uses().values() for lib in libs} - set(uses())
+        found, left = set(), sorted(named)
+        while left:
+            name = left.pop()
+            found.add(name)
+            texts = [path.read_text() for path in KIT.glob(f"{name}/src/**/*.rt") if path.stem != "tests"]
+            used = {it for text in texts for it in re.findall(r"^(?:pub )?use (\w+)", text, re.M)}
+            left += sorted((used & known) - found)
+        self.assertEqual(found - named, BELOW)
+
+    def test_limits(self):
+        """A limit that a page gives is the number of the sources."""
+        for path, name, value, pages in LIMITS:
+            found = re.search(rf"\bconst {name}: \w+ = ([\d_]+);", (ROOT / "crates" / path).read_text())
+            self.assertEqual(int(found[1]), value, f"{path}: {name}")
+            for page, words in pages.items():
+                self.assertIn(words, text_of(page), f"{path}: {name}")
+
+    def test_kafka(self):
+        """KAFKA gives the versions of messages, the codes of a refusal and the statuses that the tools have."""
+        page, lib = text_of("KAFKA"), ROOT / "tools/sumpharu_tools"
+        messages = re.findall(r'Message\("(\w+)", \d+, (\d+)', (lib / "kafka_wire.py").read_text())
+        self.assertGreater(len(messages), 9)
+        self.assertEqual([f"{name} {version}" for name, version in messages if f"{name} {version}" not in page], [])
+        self.assertIn(f"never taken {re.search(r'^REFUSALS = (.*)$', (lib / 'carrying.py').read_text(), re.M)[1]}", page)
+        tool = (lib / "carry_out.py").read_text()
+        rows = re.findall(r"^\| (\d+) \|", (ROOT / "docs/KAFKA.md").read_text(), re.M)
+        self.assertEqual(rows, re.findall(r"^  (\d+) +\w", tool.partition("It ends with status\n")[2].partition('"""')[0], re.M))
+
+    def test_answers(self):
+        """SERVICE's tables of answers have texts that the service gives, each with its code."""
+        rows = re.findall(r"^\| (\d{3}) (`.+?`)[^|]*\|", (ROOT / "docs/SERVICE.md").read_text(), re.M)
+        known = {code: set(texts) for code, texts in made_pages.refusals().items()}
+        phrases = dict(re.findall(r'^status_text code\.(\w+) = codes "(\d+)', (ROOT / "crates/rest_replies/specs/Texts.antt").read_text(), re.M))
+        refused = {(number, text) for code, number in phrases.items() for text in known.get(code, ())}
+        named = [(code, text) for code, texts in rows for text in re.findall(r"`([^`]+)`", texts) if code not in ("200", "202")]
+        self.assertGreater(len(named), 8)
+        self.assertEqual([row for row in named if row not in refused], [])
 
     def test_drawing(self):
         """Each crate stands in the drawing of the layers once, and uses crates of its own row and of rows below it."""
@@ -234,8 +347,8 @@ class Documents(unittest.TestCase):
                     self.assertEqual(value, counts.get(what), f"{page.name}: {number} {what}")
 
     def test_made_pages(self):
-        """The pages that tools/make-pages makes are what it would make now."""
-        self.assertEqual(made_pages.stale(), [], "run tools/make-pages")
+        """The pages that make-pages makes are what it would make now."""
+        self.assertEqual(made_pages.stale(), [], "run './sumpharu-tools make-pages'")
 
     def test_stale_pages_are_found(self):
         with tempfile.TemporaryDirectory() as room:

@@ -6,17 +6,14 @@ import pathlib
 import re
 import shutil
 import subprocess
-import sys
 import tempfile
 import unittest
 import unittest.mock
 
-ROOT = pathlib.Path(__file__).resolve().parents[2]
-sys.path.insert(0, str(ROOT / "tools/lib"))
-import allocations
-from allocations import AS_EVER, NO_MEMORY_LINE, NO_MEMORY_REPLY, NOTHING_WRITTEN, REQUESTS, Ran, Refusal
+from places import PROGRAM, TOOLS
+from sumpharu_tools.dev import allocations
+from sumpharu_tools.dev.allocations import AS_EVER, NO_MEMORY_LINE, NO_MEMORY_REPLY, NOTHING_WRITTEN, REQUESTS, Ran, Refusal
 
-PROGRAM = ROOT / "crates/sumpharu/out/sumpharu"
 
 # It asks for memory five times. The variable WAY has it go wrong where it gets none, or write before the fourth time.
 FAKE = r"""
@@ -134,7 +131,7 @@ class Tool(unittest.TestCase):
 
     def tool(self, *words, **variables):
         how = {"capture_output": True, "text": True, "env": {**os.environ, **variables}, "timeout": 60}
-        ran = subprocess.run([ROOT / "tools/fail-allocations", *words], **how)
+        ran = subprocess.run([TOOLS, "fail-allocations", *words], **how)
         self.assertEqual(ran.stderr, "")
         return ran.returncode, ran.stdout.splitlines()
 

@@ -1,16 +1,13 @@
-"""tools/from-kafka: sizes and loads beside the lists, from what Kafka's scripts print, from a table, and from the brokers themselves."""
+"""The tool from-kafka: sizes and loads beside the lists, from what Kafka's scripts print, from a table, and from the brokers themselves."""
 import json
 import pathlib
 import subprocess
-import sys
 import tempfile
 import unittest
 
-HERE = pathlib.Path(__file__).resolve().parent
-ROOT = HERE.parents[1]
-sys.path[:0] = [str(HERE.parent / "lib"), str(HERE)]
-import sources
-from clusters import Fault
+from places import TOOLS
+from sumpharu_tools import sources
+from sumpharu_tools.clusters import Fault
 from minikafkas import PATIENCE, Minikafka
 
 MB = 1 << 20
@@ -61,7 +58,7 @@ class FromKafka(unittest.TestCase):
         return str(path)
 
     def tool(self, *words, given=None):
-        ran = subprocess.run([ROOT / "tools" / words[0], *words[1:]], input=given, capture_output=True, text=True, timeout=PATIENCE)
+        ran = subprocess.run([TOOLS, *words], input=given, capture_output=True, text=True, timeout=PATIENCE)
         return ran.returncode, ran.stdout, ran.stderr
 
     def loads(self, out):

@@ -1,11 +1,9 @@
-"""The goals' excesses on a small cluster, compared with numbers worked out for the program's own tests; and loads of samples."""
-import os
-import sys
+"""The goals' excesses on a small cluster, compared with the numbers of the program's own tests; and loads of samples."""
+import re
 import unittest
 
-sys.path.insert(0, os.path.join(os.path.dirname(os.path.abspath(__file__)), "../lib"))
-import clusters
-import goals
+from places import ROOT
+from sumpharu_tools import clusters, goals
 
 
 def load(unit):
@@ -34,59 +32,30 @@ def small_cluster(state):
     }
 
 
-ALIVE = {
-    "EvacuationGoal": [0, 0, 0, 0, 0],
-    "RackAwareGoal": [1, 0, 1, 0, 0],
-    "MinTopicLeadersPerBrokerGoal": [0, 0, 1, 0, 3, 3],
-    "ReplicaCapacityGoal": [4, 1, 0],
-    "DiskCapacityGoal": [84560, 397400, 2960],
-    "NetworkInboundCapacityGoal": [42140, 198160, 1340],
-    "NetworkOutboundCapacityGoal": [33360, 297760, 0],
-    "CpuCapacityGoal": [20900, 98510, 500],
-    "DemotionGoal": [0, 0, 0, 0, 0],
-    "ReplicaDistributionGoal": [1, 0, 1],
-    "PotentialNwOutGoal": [333360, 298060, 29160],
-    "DiskUsageDistributionGoal": [0, 9809920, 35831920],
-    "NetworkInboundUsageDistributionGoal": [0, 14937560, 20484160],
-    "NetworkOutboundUsageDistributionGoal": [8920800, 28972800, 28072800],
-    "CpuUsageDistributionGoal": [316900, 9609700, 10516900],
-    "TopicReplicaDistributionGoal": [0, 0, 1, 1, 1, 0],
-    "LeaderReplicaDistributionGoal": [1, 0, 0],
-    "LeaderBytesInDistributionGoal": [0, 23118400, 0],
-}
-DEAD = {
-    "EvacuationGoal": [1, 1, 1, 1, 1],
-    "RackAwareGoal": [1, 0, 1, 0, 0],
-    "MinTopicLeadersPerBrokerGoal": [0, 1, 3, 3],
-    "ReplicaCapacityGoal": [1, 0],
-    "DiskCapacityGoal": [397400, 2960],
-    "NetworkInboundCapacityGoal": [198160, 1340],
-    "NetworkOutboundCapacityGoal": [297760, 0],
-    "CpuCapacityGoal": [98510, 500],
-    "DemotionGoal": [0, 0, 0, 0, 0],
-    "ReplicaDistributionGoal": [1, 2],
-    "PotentialNwOutGoal": [298060, 29160],
-    "DiskUsageDistributionGoal": [0, 36351920],
-    "NetworkInboundUsageDistributionGoal": [0, 20704160],
-    "NetworkOutboundUsageDistributionGoal": [0, 28072800],
-    "CpuUsageDistributionGoal": [0, 10616900],
-    "TopicReplicaDistributionGoal": [0, 2, 2, 1],
-    "LeaderReplicaDistributionGoal": [0, 1],
-    "LeaderBytesInDistributionGoal": [1118400, 0],
-}
-DEMOTED = {
-    "EvacuationGoal": [0, 0, 0, 0, 0],
-    "MinTopicLeadersPerBrokerGoal": [0, 1, 3, 3],
-    "DemotionGoal": [1, 1, 0, 1, 1],
-    "ReplicaDistributionGoal": [1, 0, 1],
-}
+def program_rows():
+    """The excesses that the program's own tests want, by the state of the first broker and by goal."""
+    text = (ROOT / "crates/plan_tests/src/goals.rt").read_text()
+    found = {}
+    for state, table in re.findall(r"^const (\w+): \[Row; \d+\] = \[\n(.*?)^\];", text, re.M | re.S):
+        rows = re.findall(r"GoalKind::(\w+),\s*&\[([\d, ]+)\]", table)
+        found[state] = {f"{kind}Goal": [int(number) for number in numbers.split(", ")] for kind, numbers in rows}
+    return found
+
+
+def greatest():
+    """The excess of the first broker, and of all others, that the program's own tests want of the greatest numbers."""
+    text = (ROOT / "crates/plan_tests/src/goals.rt").read_text()
+    others, first = re.search(r"let mut want = \[(\d+); 200\];\s*want\[0\] = (\d+);", text).groups()
+    return int(first), int(others)
 
 
 class Goals(unittest.TestCase):
     maxDiff = None
 
     def test_excesses(self):
-        for state, rows in (("ALIVE", ALIVE), ("DEAD", DEAD), ("DEMOTED", DEMOTED)):
+        wanted = program_rows()
+        self.assertEqual({state: len(rows) for state, rows in wanted.items()}, {"ALIVE": 18, "DEAD": 18, "DEMOTED": 4})
+        for state, rows in wanted.items():
             cluster = clusters.cluster_of(small_cluster(state))
             found = {goal.name: [unit.excess for unit in goal.units(cluster, cluster.lists)] for goal in goals.GOALS}
             self.assertEqual({name: found[name] for name in rows}, rows)
@@ -103,7 +72,8 @@ class Goals(unittest.TestCase):
         cluster = clusters.cluster_of(value)
         goal = next(goal for goal in goals.GOALS if goal.name == "DiskUsageDistributionGoal")
         excesses = [unit.excess for unit in goal.units(cluster, cluster.lists)]
-        self.assertEqual(excesses, [9397509298714018851063750000000] + [47223664817658386186250000000] * 199)
+        first, others = greatest()
+        self.assertEqual(excesses, [first] + [others] * 199)
 
     def test_defaults(self):
         value = {"version": 1, "brokers": [{"id": 1}], "partitions": [], "minTopicLeaders": [{"topic": "t", "leaders": 1}]}

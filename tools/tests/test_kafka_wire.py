@@ -2,14 +2,13 @@
 import importlib.util
 import pathlib
 import random
-import sys
 import unittest
 
 HERE = pathlib.Path(__file__).resolve().parent
-sys.path[:0] = [str(HERE.parent / "lib"), str(HERE)]
-import kafka_wire as ours
-from kafka_sign_in import Denied, Scram, SignIn, plain_message
-from kafka_wire import Change, Fields, Malformed, Move, Node, Resource, Seen, Size
+import places  # has the tools' package found
+from sumpharu_tools import kafka_wire as ours
+from sumpharu_tools.kafka_sign_in import Denied, Scram, SignIn, plain_message
+from sumpharu_tools.kafka_wire import Change, Fields, Malformed, Move, Node, Resource, Seen, Size
 from outside_bytes import BODIES
 
 

@@ -1,4 +1,4 @@
-"""tools/measure-gate, in a checkout of its own with a prover that only pretends: it takes the processor for a while, and says what it did."""
+"""The tool measure-gate, in a checkout of its own with a prover that only pretends: it takes the processor for a while, and says what it did."""
 import os
 import pathlib
 import shutil
@@ -9,7 +9,8 @@ import tempfile
 import time
 import unittest
 
-ROOT = pathlib.Path(__file__).resolve().parents[2]
+from places import copy_tools
+
 
 # Where CONTROL has a file 'works', what the pretended prover proves takes 0.3 seconds, tests 0.6, wrong bodies 0.9, and the runs
 # behind them 1.2. A crate is kept under the mark beside its sources.
@@ -63,8 +64,7 @@ class MeasureGate(unittest.TestCase):
         self.tree, self.control, self.figures = self.room / "a tree", self.room / "control", self.room / "figures"
         for folder in (self.control, self.room / "bin"):
             folder.mkdir(parents=True)
-        shutil.copytree(ROOT / "tools/lib", self.tree / "tools/lib", ignore=shutil.ignore_patterns("__pycache__"))
-        shutil.copy(ROOT / "tools/measure-gate", self.tree / "tools/measure-gate")
+        copy_tools(self.tree)
         texts = {"base": "one", "middle": "one test", "top": "one"}
         (self.tree / "crates.txt").write_text("top: middle base\nmiddle: base std\nbase:\n")
         for crate, text in texts.items():
@@ -83,7 +83,7 @@ class MeasureGate(unittest.TestCase):
         path = f"{self.room}/bin:{os.path.dirname(sys.executable)}:/usr/bin:/bin"
         env = {"PATH": path, "CONTROL": str(self.control), "CI": "true", "TMPDIR": str(self.room)}
         pipes = {"stdout": subprocess.PIPE, "stderr": subprocess.PIPE, "text": True}
-        return subprocess.Popen([self.tree / "tools/measure-gate", *words], env=env, cwd=self.room, **pipes)
+        return subprocess.Popen([self.tree / "sumpharu-tools", "measure-gate", *words], env=env, cwd=self.room, **pipes)
 
     def tool(self, *words):
         ran = self.start(*words)

@@ -4,16 +4,12 @@ import os
 import pathlib
 import random
 import subprocess
-import sys
 import tempfile
 import unittest
 
-ROOT = pathlib.Path(__file__).resolve().parents[2]
-sys.path.insert(0, str(ROOT / "tools/lib"))
-import clusters
-import plans
+from places import PROGRAM, TOOLS
+from sumpharu_tools import clusters, plans
 
-PROGRAM = ROOT / "crates/sumpharu/out/sumpharu"
 RACKS = ("--goals", "RackAwareGoal", "--skip-hard-goal-check")
 
 
@@ -61,7 +57,7 @@ class Program(unittest.TestCase):
     def test_plans_are_measured_with_their_checks(self):
         kinds = ["whole", "lost", "added", "tenth"]
         for goals in ([], ["--goals", "RackAwareGoal"]):
-            words = [ROOT / "tools/measure-plans", "--sizes", "12x120", "--seeds", "1", *goals]
+            words = [TOOLS, "measure-plans", "--sizes", "12x120", "--seeds", "1", *goals]
             ran = subprocess.run(words, stdin=subprocess.DEVNULL, capture_output=True, text=True, timeout=120)
             self.assertEqual((ran.returncode, ran.stderr), (0, ""))
             rows = [line.split() for line in ran.stdout.splitlines()[1:]]

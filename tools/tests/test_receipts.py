@@ -6,7 +6,8 @@ import subprocess
 import tempfile
 import unittest
 
-ROOT = pathlib.Path(__file__).resolve().parents[2]
+from places import ROOT
+
 
 FORGER = """use cluster_gate::Receipt;
 

@@ -6,16 +6,13 @@ import resource
 import signal
 import socket
 import subprocess
-import sys
 import tempfile
 import threading
 import unittest
 
-ROOT = pathlib.Path(__file__).resolve().parents[2]
-sys.path.insert(0, str(ROOT / "tools"))
+from places import PROGRAM, TOOLS
 from rows import files, goals, plans, reviews, sessions, summaries, words as refused
 
-PROGRAM = ROOT / "crates/sumpharu/out/sumpharu"
 
 
 def out_of_room(size):
@@ -137,7 +134,7 @@ class Rows(unittest.TestCase):
         """The demoted broker leads two partitions, and one where the plan was carried out, as the tools count."""
         self.write(plans.DEMOTED_AND_ALONE)
         (self.room / "plan").write_bytes(self.run_program(plans.PLAN + plans.LEADERS_ALONE).stdout)
-        shown = subprocess.run([ROOT / "tools/show-plan", "cluster", "plan"], cwd=self.room, capture_output=True, text=True, timeout=60)
+        shown = subprocess.run([TOOLS, "show-plan", "cluster", "plan"], cwd=self.room, capture_output=True, text=True, timeout=60)
         lines = shown.stdout.splitlines()
         self.assertEqual(lines[0], "1 of 2 partitions change: 0 replicas move (0 MB), 1 leader changes")
         self.assertIn(["DemotionGoal", "soft", "2", "1", "better"], [line.split() for line in lines])

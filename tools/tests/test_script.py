@@ -12,9 +12,9 @@ import tempfile
 import time
 import unittest
 
-ROOT = pathlib.Path(__file__).resolve().parents[2]
-sys.path[:0] = [str(ROOT / "tools/lib"), str(ROOT / "tools")]
-from commands import NAMES
+from places import ROOT
+from sumpharu_tools.dev import make_package
+from sumpharu_tools.dev.commands import NAMES
 from rows.words import REFUSED
 
 # A shell that starts the tests in the background has them ignore signals, which what they start would inherit.
@@ -64,7 +64,7 @@ class Script(unittest.TestCase):
         self.program = self.tree / "crates/sumpharu/out/sumpharu"
         for folder in (self.tree / "crates/sumpharu/src", self.tree / "crates/base/src", self.control, self.room / "bin"):
             folder.mkdir(parents=True)
-        for name in ("sumpharu", "docs", "tools"):
+        for name in ("sumpharu", "sumpharu-tools", "docs", "tools"):
             link = shutil.copytree if (ROOT / name).is_dir() else shutil.copy
             link(ROOT / name, self.tree / name)
         (self.tree / "crates.txt").write_text("# crates\nbase: thiserror\nsumpharu: base serde_json\nother: base\n")
@@ -116,6 +116,9 @@ class Script(unittest.TestCase):
         self.assertIn("sumpharu: checked 1 of 2: base\nsumpharu: checked 2 of 2: sumpharu\n", err)
         self.assertEqual(self.plan()[2], "")
         self.assertEqual(self.calls("run"), 1)
+        # what the package is made by says the same of the program and its sources
+        stamp = make_package.proved(self.program, self.tree)
+        self.assertEqual(stamp.kit, "kit 1")
         # a source that is older than the program
         self.write("two")
         os.utime(self.tree / "crates/sumpharu/src/main.rt", (0, 0))
@@ -484,8 +487,8 @@ class Script(unittest.TestCase):
             (2, ["plan", good, "--goals=RackGoal"], "sumpharu: '--goals' takes names of docs/GOALS.md, "),
             (3, ["plan", str(bad)], "sumpharu: a plain JSON reader stops at line 2, column 13: Expecting value\n"),
             (3, ["plan", good], "sumpharu: docs/FORMATS.md, 'Refusals', "),
-            (4, ["plan", good], f"tools/explain' '{good}' "),
-            (4, ["plan", "--goals", "x", good], f"tools/explain' '{good}' "),
+            (4, ["plan", good], f"sumpharu-tools' explain '{good}' "),
+            (4, ["plan", "--goals", "x", good], f"sumpharu-tools' explain '{good}' "),
             (5, ["plan", "/none"], "sumpharu: there is no file '/none'\n"),
             (5, ["plan", str(self.room)], f"sumpharu: '{self.room}' is a folder\n"),
             (5, ["plan", str(large)], f"sumpharu: '{large}' has more than 67108864 bytes\n"),

@@ -6,18 +6,15 @@ import resource
 import socket
 import struct
 import subprocess
-import sys
 import tempfile
 import time
 import unittest
 
-ROOT = pathlib.Path(__file__).resolve().parents[2]
-sys.path[:0] = [str(ROOT / "tools/lib"), str(ROOT / "tools")]
-import serving
-from commands import EXAMPLES
+from places import PROGRAM, ROOT
+from sumpharu_tools.dev import serving
+from sumpharu_tools.dev.commands import EXAMPLES
 from rows import sessions
 
-PROGRAM = ROOT / "crates/sumpharu/out/sumpharu"
 # No wait of a test is longer.
 SECONDS = 20
 # Of so many bytes of addresses the program has enough, and the stack of a thread has no place.

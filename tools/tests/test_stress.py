@@ -2,15 +2,12 @@
 import os
 import pathlib
 import stat
-import sys
 import tempfile
 import unittest
 
-ROOT = pathlib.Path(__file__).resolve().parents[2]
-sys.path.insert(0, str(ROOT / "tools/lib"))
-import stress
+from places import PROGRAM
+from sumpharu_tools.dev import stress
 
-PROGRAM = ROOT / "crates/sumpharu/out/sumpharu"
 SECONDS = 20
 
 

@@ -1,15 +1,20 @@
 """The tools, run as a user runs them."""
+import contextlib
+import hashlib
+import io
 import json
 import os
 import pathlib
+import shutil
 import subprocess
 import sys
 import tempfile
 import unittest
 
-ROOT = pathlib.Path(__file__).resolve().parents[2]
-sys.path.insert(0, str(ROOT / "tools/lib"))
-from commands import NAMES
+from places import PROGRAM, ROOT, TOOLS
+from sumpharu_tools import table
+from sumpharu_tools.__main__ import main
+from sumpharu_tools.dev.commands import NAMES
 
 DESCRIBED = """Topic: orders\tTopicId: 0kZ\tPartitionCount: 2\tReplicationFactor: 2\tConfigs: segment.bytes=1
 \tTopic: orders\tPartition: 0\tLeader: 2\tReplicas: 1,2\tIsr: 1,2\tElr: \tLastKnownElr: \tAdding Replicas: 2\tRemoving Replicas:
@@ -65,23 +70,38 @@ class Tools(unittest.TestCase):
         path.write_text(value if isinstance(value, str) else json.dumps(value))
         return str(path)
 
-    def tool(self, name, *words, given=None):
+    def tool(self, *words, given=None):
         how = {"input": given, "capture_output": True, "text": True, "cwd": ROOT, "timeout": 60}
-        ran = subprocess.run([ROOT / "tools" / name, *words], **how)
+        ran = subprocess.run([TOOLS, *words], **how)
         return ran.returncode, ran.stdout, ran.stderr
 
+    def call(self, *words):
+        """The same in the test's own process, which takes less time."""
+        here = os.getcwd()
+        os.chdir(ROOT)
+        try:
+            with contextlib.redirect_stdout(io.StringIO()) as out, contextlib.redirect_stderr(io.StringIO()) as err:
+                try:
+                    code = main(words)
+                except SystemExit as end:
+                    code = end.code
+        finally:
+            os.chdir(here)
+        return code, out.getvalue(), err.getvalue()
+
     def test_help_and_errors_are_short(self):
-        names = [path.name for path in (ROOT / "tools").iterdir() if path.is_file()]
+        names = [name for names in table.groups().values() for name in names]
         self.assertGreater(len(names), 9)
         for name in names:
             code, out, err = self.tool(name, "--help")
             self.assertEqual((code, err), (0, ""), name)
-            self.assertIn(f"\nusage: {name} ", out)
-            code, out, err = self.tool(name, "--nothing", "of this")
+            self.assertTrue(out.startswith(f"usage: sumpharu-tools {name} "), out)
+            self.assertIn(table.text_of(name), out)
+            code, out, err = self.call(name, "--nothing", "of this")
             self.assertEqual((code, out, err.count("\n")), (2, "", 1), name)
             self.assertTrue(err.startswith(f"{name}: "), err)
         for name in ("from-kafka", "show-plan", "explain", "json-place", "gen-cluster"):
-            code, out, err = self.tool(name)
+            code, out, err = self.call(name)
             self.assertEqual((code, out, err.count("\n")), (2, "", 1), name)
         bad = self.file("bad", "{")
         good = self.file("good", PLAN)
@@ -99,7 +119,9 @@ class Tools(unittest.TestCase):
             ("gen-cluster", "one"),
             ("gen-cluster", "1", "--brokers", "-4"),
             ("gen-cluster", "1", "--within", "41"),
-            ("large-cluster", "4", "5", "6"),
+            ("gen-cluster", "4", "5"),
+            ("gen-cluster", "1", "--even"),
+            ("gen-cluster", "--even", "--brokers", "2"),
             ("random-clusters", "1"),
             ("measure-plans", "--sizes", "40"),
             ("measure-plans", "--kinds", "half"),
@@ -119,9 +141,78 @@ class Tools(unittest.TestCase):
             ("from-kafka", "--cluster-state", self.file("state", STATE), "--load", good),
         ]
         for words in rows:
-            code, out, err = self.tool(*words)
+            code, out, err = self.call(*words)
             self.assertEqual((code, out, err.count("\n")), (2, "", 1), words)
             self.assertTrue(err.startswith(f"{words[0]}: "), err)
+
+    def test_the_entry_has_each_command(self):
+        """Each module that can be run is in the table, and is told of by the help; what is no command is told in one line."""
+        modules = [path for path in (ROOT / "tools/sumpharu_tools").rglob("*.py") if "\ndef add_arguments(" in path.read_text()]
+        names = {group: [*names] for group, names in table.groups().items()}
+        self.assertEqual([*names], ["for operators", "for developers of Sumpharu"])
+        for names, is_of_developers in zip(names.values(), (False, True)):
+            found = [path.stem.replace("_", "-") for path in modules if (path.parent.name == "dev") == is_of_developers]
+            self.assertEqual(sorted(names), sorted(found))
+        code, out, err = self.call("--help")
+        self.assertEqual((code, err), (0, ""))
+        for path in modules:
+            self.assertRegex(out, rf"(?m)^  {path.stem.replace('_', '-')} +[A-Z].*\.$")
+        for words in ([], ["nothing"], ["--nothing"], ["plan", "examples/three-zones.json"]):
+            code, out, err = self.call(*words)
+            self.assertEqual((code, out, err.count("\n")), (2, "", 1), words)
+            self.assertTrue(err.startswith("sumpharu-tools: "), err)
+
+    def test_operators_have_theirs_without_the_others(self):
+        """The package for operators, which has no developers' commands, where nothing of the checkout can be found."""
+        folder = self.room / "elsewhere/sumpharu_tools"
+        folder.mkdir(parents=True)
+        for path in (ROOT / "tools/sumpharu_tools").glob("*.py"):
+            shutil.copy(path, folder)
+        how = {"capture_output": True, "text": True, "cwd": folder.parent, "timeout": 60}
+        run = lambda *words: subprocess.run([sys.executable, "-B", "-m", "sumpharu_tools", *words], **how)
+        self.assertNotIn("developers", run("--help").stdout)
+        self.assertEqual(run("wrong-bodies").returncode, 2)
+        for name in table.OPERATORS:
+            self.assertEqual(run(name, "--help").returncode, 0, name)
+
+    def test_operands_stand_among_options(self):
+        words = ["examples/too-few-racks.json", "EvacuationGoal"]
+        plan = ["--plan", self.file("plan", {"partitions": []})]
+        for order in ([*words, *plan], [words[0], *plan, words[1]], [*plan, *words], ["--all", words[0], *plan, words[1]]):
+            self.assertEqual(self.call("explain", *order), (0, "EvacuationGoal: met\n", ""))
+
+    def test_operands_behind_two_dashes(self):
+        (self.room / "--bad").write_text("[1,")
+        ran = subprocess.run([TOOLS, "json-place", "--", "--bad"], cwd=self.room, capture_output=True, text=True, timeout=60)
+        self.assertEqual((ran.returncode, ran.stderr), (0, ""))
+        self.assertIn("line 1, column 4", ran.stdout)
+
+    def test_clusters_that_are_made(self):
+        """The same bytes as ever, by their sums: of drawn clusters that measurements were made with, and of even ones."""
+        rows = [
+            ("1", "18ecef8a7c046770"),
+            ("2", "6ec60f22b8e961e3"),
+            ("3", "006b684eb5c90ad3"),
+            ("1 --brokers 12 --partitions 120", "52769518159e853f"),
+            ("1 --brokers 12 --partitions 120 --lost 0", "2fe54cf943e2a831"),
+            ("1 --brokers 11 --new 1 --partitions 120", "d27836438c15fe15"),
+            ("1 --brokers 12 --partitions 120 --within 1", "fe41ada19def4dee"),
+            ("--even --brokers 200 --partitions 10000", "5c1326b3b622242f"),
+            ("--even --brokers 200 --partitions 10000 --lost 0", "c1ccab4549bbda20"),
+            ("--even --brokers 8 --partitions 30", "09c6776875ad1c31"),
+        ]
+        for words, wanted in rows:
+            code, out, err = self.call("gen-cluster", *words.split())
+            self.assertEqual((code, hashlib.sha256(out.encode()).hexdigest()[:16], err), (0, wanted, ""), words)
+
+    @unittest.skipUnless(PROGRAM.exists(), "the program isn't built")
+    def test_clusters_are_those_of_the_program(self):
+        for words in ("7 --brokers 6 --partitions 30", "1 --brokers 1 --partitions 3", "2147483647"):
+            made = subprocess.run([PROGRAM, "gen", *words.split(), "--file"], capture_output=True, text=True, timeout=60)
+            wanted, found = json.loads(made.stdout), json.loads(self.tool("gen-cluster", *words.split())[1])
+            for it in found["brokers"]:
+                self.assertEqual(it.pop("state"), "ALIVE")
+            self.assertEqual({**wanted, "version": 1}, found)
 
     def test_malformed_files_are_one_line(self):
         """A file that another tool would refuse is told in one line, whatever is wrong with it."""

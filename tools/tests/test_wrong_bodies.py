@@ -1,4 +1,4 @@
-"""Wrong bodies in the merge gate and in tools/wrong-bodies, in a checkout of their own with a prover that only pretends."""
+"""Wrong bodies in the merge gate and in the tool wrong-bodies, in a checkout of their own with a prover that only pretends."""
 import os
 import pathlib
 import shutil
@@ -9,10 +9,10 @@ import tempfile
 import time
 import unittest
 
-ROOT = pathlib.Path(__file__).resolve().parents[2]
-sys.path.insert(0, str(ROOT / "tools/lib"))
-import wrong_bodies
+from places import ROOT, copy_tools
+from sumpharu_tools.dev import edits
 
+TOOL = ("./sumpharu-tools", "wrong-bodies")
 # What the pretended prover does is told by files in the folder that CONTROL names. A wrong body whose text has 'passes' isn't refused.
 RT = r"""#!/bin/sh
 control=$CONTROL
@@ -54,10 +54,9 @@ class WrongBodies(unittest.TestCase):
         self.tree, self.control = self.room / "a tree", self.room / "control"
         for folder in (self.control, self.room / "bin", self.tree / "tools/tests"):
             folder.mkdir(parents=True)
-        for name in (".ci", "tools/lib"):
-            shutil.copytree(ROOT / name, self.tree / name, ignore=shutil.ignore_patterns("__pycache__"))
-        for name in (".gitignore", "tools/wrong-bodies"):
-            shutil.copy(ROOT / name, self.tree / name)
+        shutil.copytree(ROOT / ".ci", self.tree / ".ci")
+        shutil.copy(ROOT / ".gitignore", self.tree / ".gitignore")
+        copy_tools(self.tree)
         self.write("tools/tests/test_none.py", "")
         self.write("crates.txt", "base: std\n# above\ntop: base\nplain: base\n")
         for crate in ("base", "top", "plain"):
@@ -91,7 +90,7 @@ class WrongBodies(unittest.TestCase):
         return ran.returncode, out, err
 
     def tool(self, *words):
-        return self.run_words("tools/wrong-bodies", *words)
+        return self.run_words(*TOOL, *words)
 
     def gate(self, *words):
         """The gate, which this tree's rows always fail, since it has no program: its status is 1 where it comes to them, and the prover passed."""
@@ -159,9 +158,9 @@ class WrongBodies(unittest.TestCase):
         for folder in ("crates", "wrong-bodies"):
             shutil.copytree(self.tree / folder, self.room / folder)
         for change in changes:
-            self.assertEqual(wrong_bodies.stale(self.tree, "kit 1"), [])
+            self.assertEqual(edits.stale(self.tree, "kit 1"), [])
             change()
-            self.assertEqual(wrong_bodies.stale(self.tree, "kit 1"), ["base"])
+            self.assertEqual(edits.stale(self.tree, "kit 1"), ["base"])
             for folder in ("crates", "wrong-bodies"):
                 shutil.rmtree(self.tree / folder)
                 shutil.copytree(self.room / folder, self.tree / folder)
@@ -206,11 +205,11 @@ class WrongBodies(unittest.TestCase):
         """What a test of a crate prints isn't taken for the prover's word."""
         label = "rt: must-fail base/a.edit: "
         body = pathlib.Path("a.edit")
-        self.assertTrue(wrong_bodies.is_refused([f"{label}refused, as it must be"], "base", body))
+        self.assertTrue(edits.is_refused([f"{label}refused, as it must be"], "base", body))
         for other in ("NOT REFUSED: it is proved", "BAD EDIT: it isn't read", "refused, as it must be"):
-            self.assertFalse(wrong_bodies.is_refused([f"{label}refused, as it must be", label + other], "base", body))
-        self.assertFalse(wrong_bodies.is_refused([f" {label}refused, as it must be"], "base", body))
-        self.assertFalse(wrong_bodies.is_refused([f"{label}refused, as it must be"], "top", body))
+            self.assertFalse(edits.is_refused([f"{label}refused, as it must be", label + other], "base", body))
+        self.assertFalse(edits.is_refused([f" {label}refused, as it must be"], "base", body))
+        self.assertFalse(edits.is_refused([f"{label}refused, as it must be"], "top", body))
 
     def test_a_change_during_the_run_writes_no_line(self):
         """Also one that is taken back, and another kit."""
@@ -277,7 +276,7 @@ class WrongBodies(unittest.TestCase):
     def test_a_try_that_is_interrupted(self):
         (self.control / "slow").touch()
         for number in (signal.SIGINT, signal.SIGTERM, signal.SIGHUP):
-            ran = self.start("tools/wrong-bodies", "try", "base")
+            ran = self.start(*TOOL, "try", "base")
             self.until(lambda: (self.control / "started").exists())
             self.assertEqual(len([*self.tree.glob("crates/*/must-fail/*.edit")]), 2)
             (self.control / "started").unlink()
@@ -309,7 +308,7 @@ class WrongBodies(unittest.TestCase):
         first = self.start(".ci/run")
         self.until(lambda: (self.control / "started").exists())
         (self.control / "slow").unlink()
-        second = self.start("tools/wrong-bodies", "try", "top")
+        second = self.start(*TOOL, "try", "top")
         self.assertEqual(second.stderr.readline(), "waiting for another run that tries wrong bodies in this checkout\n")
         self.assertEqual(len([*self.tree.glob("crates/*/must-fail/*.edit")]), 3)
         self.end_sleep()
@@ -334,7 +333,7 @@ class WrongBodies(unittest.TestCase):
 
     def test_what_else_stands_there_stays(self):
         self.write("crates/base/must-fail/mine.edit", body_of("mine"))
-        for words in ((".ci/run",), ("tools/wrong-bodies", "try"), ("tools/wrong-bodies", "remove")):
+        for words in ((".ci/run",), (*TOOL, "try"), (*TOOL, "remove")):
             code, _, err = self.run_words(*words)
             self.assertEqual((code, err.count("\n")), (0, 0) if "remove" in words else (2, 1))
             self.assertEqual("crates/base/must-fail/mine.edit: no file of yours may stand there" in err, "remove" not in words)
@@ -388,11 +387,11 @@ class Repository(unittest.TestCase):
     """The wrong bodies of this repository."""
 
     def test_each_can_be_applied(self):
-        bodies = wrong_bodies.bodies_of(ROOT)
+        bodies = edits.bodies_of(ROOT)
         self.assertGreater(sum(map(len, bodies.values())), 100)
         for crate, found in bodies.items():
             for body in found:
-                self.assertIsNone(wrong_bodies.fault_of(ROOT / "crates" / crate, body.read_text()), body)
+                self.assertIsNone(edits.fault_of(ROOT / "crates" / crate, body.read_text()), body)
 
     def test_none_stands_where_it_is_tried(self):
         tracked = subprocess.run(["git", "ls-files", "crates/*/must-fail"], cwd=ROOT, capture_output=True, text=True, timeout=60)

@@ -3,16 +3,13 @@
 A trial holds each run against the cluster's own word: never more in flight than the caps, each task told done has its list and leader at that moment
 and its list at the end, each refused one has its old list, nothing else changed, nothing is left in flight.
 """
-import pathlib
 import random
-import sys
 
-HERE = pathlib.Path(__file__).resolve().parent
-sys.path[:0] = [str(HERE.parent / "lib"), str(HERE)]
-from carrying import Caps, Phase, Run, Task
-from kafka_admin import Admin
-from kafka_link import Link
-from kafka_sign_in import Security
+import places  # has the tools' package found
+from sumpharu_tools.carrying import Caps, Phase, Run, Task
+from sumpharu_tools.kafka_admin import Admin
+from sumpharu_tools.kafka_link import Link
+from sumpharu_tools.kafka_sign_in import Security
 from minikafkas import InMemory
 
 BROKERS, RATE = 5, 400000
