@@ -220,7 +220,7 @@ class Parts(unittest.TestCase):
         unit.read_string(text)
         service = unit["Service"]
         self.assertEqual(service["ExecStart"].split()[:2], ["/usr/bin/sumpharu", "serve"])
-        self.assertEqual(re.findall(r"(?<!\S)--[a-z]+", text), ["--links"])
+        self.assertEqual(re.findall(r"(?<!\S)--[a-z]+", text), ["--forever"])
         default = (ROOT / "tools/package/sumpharu.default").read_text()
         variables = re.findall(r"^(\w+)=", default, re.M)
         self.assertEqual(variables, re.findall(r"\$\{?(\w+)", service["ExecStart"]))

@@ -30,6 +30,7 @@ ADMIN = "/kafkacruisecontrol/admin"
 CAP = f"{ADMIN}?concurrent_leader_movements=7"
 TAKE = "/kafkacruisecontrol/remove_broker?review_id=1"
 REVIEW = "/kafkacruisecontrol/review"
+CLOSE = "/cluster/close"
 BOARD = "/kafkacruisecontrol/review_board"
 FIRST_TASK = sessions.FIRST_TASK
 
@@ -331,6 +332,79 @@ class Serve(unittest.TestCase):
         self.assert_ends()
 
     # Movers and planners
+
+    # Any number of links
+
+    def test_any_number_of_links_until_a_client_asks_the_end(self):
+        """Many more links than are served at once come one after another. The link that asks the end reads its reply, and then its end."""
+        self.start("--forever", "--links", "2")
+        other = self.link()
+        for _ in range(50):
+            link = self.link()
+            self.assertEqual(link.ask("GET", STATE).raw, reply_bytes("200 OK", IDLE))
+            link.close()
+        self.assertEqual(other.ask("GET", STATE).code, 200)
+        other.close()
+        self.assertIsNone(self.process.poll())
+        link = self.link()
+        link.send(request_bytes(f"POST {CLOSE}"))
+        self.assertEqual(link.rest(), reply_bytes("200 OK", '{"closing":true,"version":1}'))
+        self.assert_ends()
+
+    def test_a_shutdown_ends_the_links_that_wait(self):
+        """One waits between two requests, and one inside a request's head; others that are accepted at once have no client."""
+        self.start("--forever")
+        idle, cut, last = self.links(3)
+        for link in (idle, cut):
+            self.assertEqual(link.ask("GET", STATE).code, 200)
+        cut.send(b"GET /kafkacruisecontrol/sta")
+        self.assertEqual(last.ask("POST", f"{CLOSE}?reason=maintenance").body, {"closing": True, "version": 1})
+        for link in (idle, cut, last):
+            self.assertEqual(link.rest(), b"")
+        self.assert_ends()
+
+    def test_what_is_left_is_carried_out_behind_a_shutdown(self):
+        self.start("--forever", "--movers", "1", file=self.file(cluster(40, 50)))
+        link = self.link()
+        self.assertEqual(link.ask("POST", REMOVE).code, 202)
+        self.assertEqual(link.ask("POST", CLOSE).code, 200)
+        self.assertEqual(link.rest(), b"")
+        self.assert_ends()
+
+    def test_what_asks_no_shutdown(self):
+        """The path is there with the option alone. It is a POST without parameters of its own."""
+        self.start("--forever", "--links", "1")
+        link = self.link()
+        self.assertEqual(link.ask("GET", CLOSE).code, 405)
+        self.assertEqual(link.ask("POST", f"{CLOSE}?now=1").body["errorMessage"], "bad parameter: now")
+        self.assertEqual(link.ask("GET", STATE).code, 200)
+        link.ask("POST", CLOSE)
+        self.assert_ends()
+        self.start()
+        link = self.link()
+        self.assertEqual(link.ask("POST", CLOSE).code, 404)
+        link.close()
+        self.assert_ends()
+
+    def test_any_number_of_links_without_threads(self):
+        """One is served after another."""
+        self.start("--forever", "--links", "2", addresses=NO_THREADS)
+        for _ in range(3):
+            link = self.link()
+            self.assertEqual(link.ask("GET", STATE).code, 200)
+            link.close()
+        self.assertEqual(self.link().ask("POST", CLOSE).code, 200)
+        self.assert_ends()
+
+    def test_reviewed_links_without_end(self):
+        """Requests are reviewed, and the path of the end isn't."""
+        self.start("--forever", "--review")
+        one, other = self.links(2)
+        self.assertEqual(one.ask("POST", REMOVE).body["reviewId"], 1)
+        self.assertEqual(other.ask("POST", f"{REVIEW}?approve=1").code, 200)
+        self.assertEqual(one.ask("POST", TAKE).code, 202)
+        self.assertEqual(other.ask("POST", CLOSE).code, 200)
+        self.assert_ends()
 
     def test_movers_and_planners_carry_a_request_out(self):
         self.start("--movers", "2", "--planners", "1", file=self.file(cluster(partitions=12, chunks=3)))

@@ -1,4 +1,7 @@
 """Sessions and services with threads that have little to do end, each within seconds."""
+import argparse
+import contextlib
+import io
 import os
 import pathlib
 import stat
@@ -6,7 +9,7 @@ import tempfile
 import unittest
 
 from places import PROGRAM
-from sumpharu_tools.dev import stress
+from sumpharu_tools.dev import soak, stress
 
 SECONDS = 20
 
@@ -18,6 +21,12 @@ class Program(unittest.TestCase):
 
     def test_services_end(self):
         self.assertEqual(stress.services(PROGRAM, 20, SECONDS), [])
+
+    def test_a_service_without_end_stays_as_it_should_be(self):
+        """A few seconds of what 'soak' does for an hour."""
+        words = argparse.Namespace(program=PROGRAM, minutes=0.05, clients=4, seed=1, brokers=10, partitions=200)
+        with tempfile.TemporaryDirectory() as folder, contextlib.redirect_stdout(io.StringIO()):
+            self.assertEqual(soak.Soak(pathlib.Path(folder), words).soak(), [])
 
 
 class Fakes(unittest.TestCase):

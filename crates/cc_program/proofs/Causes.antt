@@ -1,18 +1,22 @@
 -- Why a run with threads ended so.
-use Rattle.std.proofs.Common.{◌≡◌, ◌⊎◌, ◌≤◌, ◌<◌, inl, inr, ℕ, Bool, true, false, List, length, refl, ap, sym, ◌∙◌, subst, arith}
+use Rattle.std.proofs.Common.{◌≡◌, ◌⊎◌, ◌≤◌, ◌<◌, inl, inr, ℕ, Bool, true, false, List, [], ◌∷◌, length, map, refl, ap, sym, ◌∙◌, subst, arith}
 use Rattle.std.specs.Prelude.{Option, Some, None, IfSome, Ok, Err}
+use Rattle.std.specs.List.{AllByRecursion}
+use Rattle.std.proofs.lemmas.Bool.{cases_Bool}
 use Rattle.cc_base.specs.Outside.{HasRisen}
 use Rattle.cluster_json.specs.Faults.{Fault}
 use Rattle.cluster_json.specs.File.{Meaning}
 use Rattle.control_core.specs.Books.{BookView}
 use Rattle.live_service.specs.Asked.{ServingAsked}
 use Rattle.live_service.specs.Boards.{BoardCallerView}
-use Rattle.live_service.specs.Fronts.{HasAnswered, IsUnheard}
+use Rattle.live_service.specs.Fronts.{HasAnswered, HasAnsweredNet, IsUnheard}
+use Rattle.live_service.specs.Lanes.{IsGivenUp, IsLaneRun, LaneRun, any_failed}
+use Rattle.live_service.specs.Links.{tries}
 use Rattle.live_service.specs.Views.{FrontTold, TeamView, told_of}
 use Rattle.live_service.specs.Workers.{Pass}
 use Rattle.live_service.specs.declared.front.FrontEnd.{FrontEnd}
 use Rattle.live_service.specs.declared.front.FrontEnd.TheVariants as front
-use Rattle.mover_rounds.specs.Made.{Copies}
+use Rattle.mover_rounds.specs.Made.{Copies, HasRisenBy}
 use Rattle.mover_rounds.specs.Drained.{IsDrainCause}
 use Rattle.mover_rounds.specs.Owned.{known_by_owner}
 use Rattle.mover_rounds.specs.declared.drains.DrainEnd.{DrainEnd}
@@ -23,7 +27,7 @@ use Rattle.rest_session.specs.declared.session.LinkEnd.TheVariants as link
 use Rattle.rest_stream.specs.Stream.{Requests, stopped}
 use Rattle.rest_stream.specs.declared.raw.RawRequest.{RawRequest}
 use Rattle.rest_stream.specs.declared.raw.Stop.{Stop}
-use Rattle.cc_program.specs.Complete.{HasLiveFailed, IsCauseBy, IsCutSession, IsLiveGiven, IsServed}
+use Rattle.cc_program.specs.Complete.{HasHandleFailed, HasLiveFailed, NetFailed, IsCauseBy, IsCutSession, IsLiveGiven, IsServed}
 use Rattle.quiet_commands.specs.Input.{IsRefused, Means}
 use Rattle.quiet_commands.specs.Ends.{IsTold, lines_of, status_of}
 use Rattle.cc_program.specs.Lives.{Gate, IsLeftFrom, IsCalled, IsForgone, IsLiveOf, IsLoadedOnce, IsNotBegun, IsUnasked, IsUnread, Leaves, LiveAsked, Shelf, any_want, copiers_before, ended_live, live_command, or_want}
@@ -49,6 +53,17 @@ called words copiers call (inr many) =
     let same : many.asked ≡ call.asked = same_asked words many.asked call.asked many.means call.means in
     absurd (omega (arith, call.enough, subst (λ (a : LiveAsked). copiers ≤ copiers_before a.crew) same many.few))
 
+-- a thread that gave up has a handle whose calls failed
+risen_from_none : (before now : ℕ) → before ≡ 0 → HasRisenBy tries before now → 1 ≤ now
+risen_from_none before now none risen = omega (arith, none, risen)
+
+handle_failed : (file : Meaning) (reviews : Bool) (rs : List LaneRun) → AllByRecursion (IsLaneRun file reviews) rs → any_failed (map (λ r. r.lane) rs) ≡ true → HasHandleFailed (map (λ r. r.lane) rs)
+handle_failed file reviews [] h e = absurd cc
+handle_failed file reviews (r ∷ rs) h e = elim (cases_Bool r.lane.failed) [
+  | inl yes_ ↦ inl (risen_from_none r.before.faults r.lane.net.faults h.0.unused.0 (h.0.served.failed yes_))
+  | inr no_ ↦ inr (handle_failed file reviews rs h.1 (rw no_ at e))
+]
+
 module _ {A : Type 0} (gate : Gate A) (words : List (List ℕ)) (files : Shelf) (o : OutsideView) (admin : A) (l : LeftView A) where
   abbrev Cause : Option (BookView A) → End → Type 0
   Cause book way = IsCauseBy gate words files o admin l book way
@@ -73,30 +88,44 @@ module _ {A : Type 0} (gate : Gate A) (words : List (List ℕ)) (files : Shelf) 
     abbrev Answered : Option ServingAsked → FrontEnd → Type 0
     Answered s e = HasAnswered file s x y f g e k j v w
 
+    no_console : (b : Bool) (s : ServingAsked) (e : LinkEnd) → HasAnsweredNet b file s x y f g (front.Console e) k j v w → ⊥
+    no_console true s e h = h.1
+    no_console false s e h = h
+
     stops : (raws : List RawRequest) (e : LinkEnd) → asked.crew.serving ≡ None → (e ≡ link.Cut) ⊎ (e ≡ link.Unframed) → (why : Stop) → end_of why ≡ e → IfSome f.console.left (λ s. Requests 0 s raws (stopped why)) → IsCutSession words f.console.left
     stops raws e is how why same told = record { asked = asked; means = means; of_console = is; raws = raws; why = why; cut = subst (λ (x : LinkEnd). (x ≡ link.Cut) ⊎ (x ≡ link.Unframed)) (sym same) how; stops = λ stream at. if_told f.console.left (λ s. Requests 0 s raws (stopped why)) stream at told }
 
     cut : (s : Option ServingAsked) → asked.crew.serving ≡ s → Answered s (front.Console link.Cut) → IsCutSession words f.console.left
-    cut (Some x) is h = absurd h
+    cut (Some x) is h = absurd (no_console x.forever x link.Cut h)
     cut None is h = let e = h.0.answered.made.is.ended in stops _ link.Cut is (inl refl) e.0 e.1 e.2.1.requests
 
     unframed : (s : Option ServingAsked) → asked.crew.serving ≡ s → Answered s (front.Console link.Unframed) → IsCutSession words f.console.left
-    unframed (Some x) is h = absurd h
+    unframed (Some x) is h = absurd (no_console x.forever x link.Unframed h)
     unframed None is h = let e = h.0.answered.made.is.ended in stops _ link.Unframed is (inr refl) e.0 e.1 e.2.1.requests
 
     unread_more : (s : Option ServingAsked) → Answered s (front.Console link.ReadFault) → HasRisen f.console.reads g.console.reads
-    unread_more (Some x) h = absurd h
+    unread_more (Some x) h = absurd (no_console x.forever x link.ReadFault h)
     unread_more None h = h.0.cause.read_fault refl
 
     unwritten : (s : Option ServingAsked) → Answered s (front.Console link.WriteFault) → HasRisen f.console.writes g.console.writes
-    unwritten (Some x) h = absurd h
+    unwritten (Some x) h = absurd (no_console x.forever x link.WriteFault h)
     unwritten None h = h.0.cause.write_fault refl
 
-    unlistened : (s : Option ServingAsked) → Answered s front.ListenerFault → HasRisen f.net.faults g.net.faults
-    unlistened (Some x) h = has_risen h.1.why where
-      has_risen : IsUnheard x.address f.net g.net g.served → HasRisen f.net.faults g.net.faults
-      has_risen (inl i) = i.1
-      has_risen (inr i) = let h = i.1 in omega (arith, h)
+    has_risen : (address : List ℕ) → IsUnheard address f.net g.net g.served → HasRisen f.net.faults g.net.faults
+    has_risen address (inl i) = i.1
+    has_risen address (inr i) = let h = i.1 in omega (arith, h)
+
+    given_up : (address : List ℕ) → (any_failed g.lanes ≡ true → HasHandleFailed g.lanes) → IsGivenUp address f.net g.net g.lanes → NetFailed f.net.faults g.net.faults g.lanes
+    given_up address handle (inl i) = inl i.1
+    given_up address handle (inr (_, inl i)) = inl i
+    given_up address handle (inr (_, inr i)) = inr (handle i)
+
+    net_failed : (b : Bool) (s : ServingAsked) → HasAnsweredNet b file s x y f g front.ListenerFault k j v w → NetFailed f.net.faults g.net.faults g.lanes
+    net_failed false s h = inl (has_risen s.address h.1.why)
+    net_failed true s h = given_up s.address (λ failed. rw h.0.served.lanes_are (handle_failed file x.reviews h.0.served.runs h.0.served.are (rw h.0.served.lanes_are at failed))) h.1.why
+
+    unlistened : (s : Option ServingAsked) → Answered s front.ListenerFault → NetFailed f.net.faults g.net.faults g.lanes
+    unlistened (Some s) h = net_failed s.forever s h
     unlistened None h = absurd h
 
   module _ (asked : LiveAsked) (means : live_command words ≡ Some asked) (m : Meaning) where
@@ -126,6 +155,9 @@ module _ {A : Type 0} (gate : Gate A) (words : List (List ℕ)) (files : Shelf) 
       back_net : l.outside.net ≡ h.live.between.front.service.net
       back_net = h.back_is.team.net ∙ sym (ap (λ (t : TeamView). t.front.service.net) h.live.between_is)
 
+      back_lanes : l.lanes ≡ h.live.between.front.service.lanes
+      back_lanes = h.back_is.lanes ∙ sym (ap (λ (t : TeamView). t.front.service.lanes) h.live.between_is)
+
       -- what the front answered, told of the outside before and after
       abbrev asked_before : FrontTold
       asked_before = told_of h.given.front
@@ -142,7 +174,9 @@ module _ {A : Type 0} (gate : Gate A) (words : List (List ℕ)) (files : Shelf) 
     over c (front.Console link.WriteFault) want d h = let r = h.live.shared.run.run in rw (h.given_is.console, back_console c (front.Console link.WriteFault) d h) (unwritten asked means h.b.file h.live.board_given h.live.board_back (asked_before c (front.Console link.WriteFault) d h) (asked_behind c (front.Console link.WriteFault) d h) r.others_old r.others_new r.begun r.did.served asked.crew.serving r.did.answered)
     over c (front.Console link.Memory) want d h = tt
     over c front.Accepted want d h = drained c front.Accepted d h want
-    over c front.ListenerFault want d h = let r = h.live.shared.run.run in rw (h.given_is.net, back_net c front.ListenerFault d h) (unlistened asked means h.b.file h.live.board_given h.live.board_back (asked_before c front.ListenerFault d h) (asked_behind c front.ListenerFault d h) r.others_old r.others_new r.begun r.did.served asked.crew.serving r.did.answered)
+    over c front.ShutDown want d h = drained c front.ShutDown d h want
+    over c (front.Console link.ShutDown) want d h = drained c (front.Console link.ShutDown) d h want
+    over c front.ListenerFault want d h = let r = h.live.shared.run.run in rw (h.given_is.net, back_net c front.ListenerFault d h, back_lanes c front.ListenerFault d h) (unlistened asked means h.b.file h.live.board_given h.live.board_back (asked_before c front.ListenerFault d h) (asked_behind c front.ListenerFault d h) r.others_old r.others_new r.begun r.did.served asked.crew.serving r.did.answered)
 
     -- none was begun
     unbegun : (way : End) → IsNotBegun gate admin l.admin way → Cause None way

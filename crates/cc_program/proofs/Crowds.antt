@@ -26,6 +26,11 @@ ranged least most m (Some n) e = tested least most n m _ (below least most n) e
 numbered : (least most m : ℕ) (text : Option Text) → words.number_in least most text ≡ Some m → m ≤ most
 numbered least most m text e = ranged least most m (option_and_then whole_of text) e
 
+few_links : (forever : Bool) (text : Option Text) (m : ℕ) → words.links_asked forever text ≡ Some m → m ≤ 64
+few_links true None m e = let same : 16 ≡ m = cc in subst (λ (x : ℕ). x ≤ 64) same (omega arith)
+few_links false None m e = let same : 1 ≡ m = cc in subst (λ (x : ℕ). x ≤ 64) same (omega arith)
+few_links forever (Some text) m e = numbered 1 64 m (Some text) e
+
 module _ (w : words.WorkersAsked) where
   by_planners : (movers : ℕ) (p : Option ℕ) → ((m : ℕ) → p ≡ Some m → m ≤ 4) → movers ≤ 64 → option_map (words.workers_with movers) p ≡ Some w → AreFew w
   by_planners movers None few m e = absurd cc
@@ -78,7 +83,7 @@ module _ (a : words.Asked) where
   of_serve : (rows : List Row) (file : Option Text) (o : words.ServeAsked)
       → option_and_then (λ f. option_and_then (λ w. option_and_then (λ listen. option_map (words.serve_with rows f w listen) (words.links_of rows)) (first_of (codes "listen") rows)) (words.workers_of rows)) file ≡ Some o → AreFew o.workers × (o.links ≤ 64)
   of_serve rows None o e = absurd cc
-  of_serve rows (Some f) o e = with_crew rows f (words.workers_of rows) (first_of (codes "listen") rows) (words.links_of rows) o (λ w h. are_few w rows h) (λ n h. numbered 1 64 n (first_of (codes "links") rows) h) e
+  of_serve rows (Some f) o e = with_crew rows f (words.workers_of rows) (first_of (codes "listen") rows) (words.links_of rows) o (λ w h. are_few w rows h) (λ n h. few_links (words.forever_of rows) (first_of (codes "links") rows) n h) e
 
   chosen : (rows : List Row) (p c l g s v : Bool)
       → (if p then option_map words.plan (words.plan_of rows)
@@ -109,7 +114,7 @@ IsFew c = (c.movers ≤ 64) × (c.planners ≤ 4) × (links_in c.serving ≤ 64)
 lived : (a : words.Asked) (l : LiveAsked) → Holds a → live_of a ≡ Some l → IsFew l.crew
 lived (words.session o) l h e = let same : record { file = o.file; crew = record { movers = o.workers.movers; planners = o.workers.planners; serving = None; reviews = o.review } } ≡ l = cc in subst (λ (x : LiveAsked). IsFew x.crew) same (h.0, h.1, omega arith)
 lived (words.serve o) l h e =
-    let same : record { file = o.file; crew = record { movers = o.workers.movers; planners = o.workers.planners; serving = Some (record { address = o.listen; links = o.links }); reviews = o.review } } ≡ l = cc in
+    let same : record { file = o.file; crew = record { movers = o.workers.movers; planners = o.workers.planners; serving = Some (record { address = o.listen; links = o.links; forever = o.forever }); reviews = o.review } } ≡ l = cc in
     subst (λ (x : LiveAsked). IsFew x.crew) same (h.0.0, h.0.1, h.1)
 lived _ l h e = absurd cc
 

@@ -41,6 +41,6 @@ left_begun gate m crew o admin l None end is over = absurd (let h : false ≡ tr
 left_begun gate m crew o admin l (Some c) end is over = over
 
 -- links, as a value of the program and as the words ask for them
-pub links_counted : (s : Option Serving) → asked.links_of s ≡ links_in (asked.serving_told s)
+pub links_counted : (s : Option Serving) → asked.links_of s ≡ links_in (asked.serving_view s)
 links_counted None = refl
 links_counted (Some s) = refl

@@ -1,5 +1,5 @@
 -- When a run with threads ends so, and when it has to end well.
-use Rattle.std.specs.Prelude.{◌≡◌, ◌≤◌, ◌⊎◌, ℕ, true, List, length, Option, Some, None, IfSome}
+use Rattle.std.specs.Prelude.{◌≡◌, ◌≤◌, ◌⊎◌, ℕ, true, List, [], ◌∷◌, length, Option, Some, None, IfSome}
 use Rattle.cc_base.specs.Outside.{HasRisen}
 use Rattle.cluster_json.specs.File.{Meaning}
 use Rattle.control_core.specs.Books.{BookView, state_of}
@@ -11,6 +11,7 @@ use Rattle.rest_stream.specs.declared.raw.RawRequest.{RawRequest}
 use Rattle.rest_stream.specs.declared.raw.Stop.{Stop}
 use Rattle.quiet_commands.specs.Input.{Means}
 use Rattle.live_service.specs.Asked.{ServingAsked}
+use Rattle.live_service.specs.Views.{LaneView}
 use Rattle.cc_program.specs.Lives.{Gate, IsCalled, IsLiveRefusal, IsUnasked, LiveAsked, Shelf, live_command}
 use Rattle.cc_program.specs.Outside.{LeftView, OutsideView}
 use Rattle.quiet_commands.specs.declared.ends.End.{End}
@@ -43,6 +44,15 @@ pub record IsUndrained {A : Type 0} (c : BookView A) : Type 0 where
   pub unfinished : any_unfinished (state_of c).desk.exec.tasks ≡ true
   pub late : (1 ≤ c.late) ⊎ (18446744073709551615 ≤ c.failures)
 
+-- a call of one of these handles of the listener failed
+abbrev pub HasHandleFailed : List LaneView → Type 0
+HasHandleFailed [] = ⊥
+HasHandleFailed (x ∷ xs) = (1 ≤ x.net.faults) ⊎ HasHandleFailed xs
+
+-- a call of the listener failed, or one of its handles
+abbrev pub NetFailed : ℕ → ℕ → List LaneView → Type 0
+NetFailed before now lanes = HasRisen before now ⊎ HasHandleFailed lanes
+
 -- why a run ended so that left this book. It ends neither by a goal nor by a trace
 abbrev pub IsCauseBy : {A : Type 0} → Gate A → List (List ℕ) → Shelf → OutsideView → A → LeftView A → Option (BookView A) → End → Type 0
 IsCauseBy gate words files o admin l book Usage = IsUnasked words (length o.copiers)
@@ -52,7 +62,7 @@ IsCauseBy gate words files o admin l book ReadFault = HasRisen o.console.reads l
 IsCauseBy gate words files o admin l book WriteFault = HasRisen o.console.writes l.outside.console.writes
 IsCauseBy gate words files o admin l book NotDrained = HasFailedBy gate admin l.admin book × IfSome book IsUndrained
 IsCauseBy gate words files o admin l book InputCut = IsCutSession words o.console.left
-IsCauseBy gate words files o admin l book ListenerFault = HasRisen o.net.faults l.outside.net.faults
+IsCauseBy gate words files o admin l book ListenerFault = NetFailed o.net.faults l.outside.net.faults l.lanes
 IsCauseBy gate words files o admin l book (GoalFailed line) = ⊥
 IsCauseBy gate words files o admin l book TraceRefused = ⊥
 IsCauseBy gate words files o admin l book _ = Unit {0}
@@ -64,7 +74,7 @@ IsLiveCause gate words files o admin l end = IsCauseBy gate words files o admin 
 abbrev pub HasLiveFailed : {A : Type 0} → Gate A → Shelf → OutsideView → A → LeftView A → Type 0
 HasLiveFailed gate files o admin l =
     HasRisen files.before files.now ⊎ HasRisen o.console.reads l.outside.console.reads ⊎ HasRisen o.console.writes l.outside.console.writes
-    ⊎ HasRisen o.net.faults l.outside.net.faults ⊎ AdminFailed gate admin l
+    ⊎ NetFailed o.net.faults l.outside.net.faults l.lanes ⊎ AdminFailed gate admin l
 
 -- without links the requests are the console's, and have to be whole
 abbrev pub IsServed : Option ServingAsked → Option (List ℕ) → Type 0

@@ -12,9 +12,10 @@ use Rattle.core_laws.specs.Events.{AreListsShown}
 use Rattle.core_terms.specs.History.{AreLegal}
 use Rattle.core_terms.specs.Sound.{IsSound}
 use Rattle.exec_terms.specs.Machine.{lists_now}
-use Rattle.live_service.specs.Asked.{CrewAsked, ServingAsked, crew_told}
+use Rattle.live_service.specs.Asked.{CrewAsked, ServingAsked, crew_view}
 use Rattle.live_service.specs.Live.{IsLive}
-use Rattle.live_service.specs.Views.{ServedView, TeamView}
+use Rattle.live_service.specs.Links.{out_of_memory}
+use Rattle.live_service.specs.Views.{LaneView, ServedView, TeamView}
 use Rattle.live_service.specs.declared.front.FrontEnd.{FrontEnd}
 use Rattle.live_service.specs.declared.front.FrontEnd.TheVariants as front
 use Rattle.mover_workers.specs.declared.loops.LoopEnd.{LoopEnd}
@@ -22,8 +23,6 @@ use Rattle.mover_workers.specs.declared.loops.LoopEnd.TheVariants as loop
 use Rattle.mover_rounds.specs.declared.drains.DrainEnd.{DrainEnd}
 use Rattle.mover_rounds.specs.declared.drains.DrainEnd.TheVariants as drain
 use Rattle.plan_terms.specs.Cluster.{Lists}
-use Rattle.rest_session.specs.declared.session.LinkEnd.{LinkEnd}
-use Rattle.rest_session.specs.declared.session.LinkEnd.TheVariants as link
 use Rattle.review_board.specs.declared.events.BoardEvent.{BoardEvent}
 use Rattle.quiet_commands.specs.Ends.{refusal_line}
 use Rattle.quiet_commands.specs.Input.{IsRefused, Means}
@@ -43,7 +42,7 @@ crew_with workers serving reviews = record { movers = workers.movers; planners =
 
 abbrev pub live_of : words.Asked → Option LiveAsked
 live_of (words.session o) = Some (record { file = o.file; crew = crew_with o.workers None o.review })
-live_of (words.serve o) = Some (record { file = o.file; crew = crew_with o.workers (Some (record { address = o.listen; links = o.links })) o.review })
+live_of (words.serve o) = Some (record { file = o.file; crew = crew_with o.workers (Some (record { address = o.listen; links = o.links; forever = o.forever })) o.review })
 live_of _ = None
 
 -- what the words ask of a run with threads
@@ -51,8 +50,8 @@ abbrev pub live_command : List (List ℕ) → Option LiveAsked
 live_command given = option_and_then live_of (words.meaning given)
 
 -- the same as a value of the program
-abbrev pub live_told : LiveRequest → LiveAsked
-live_told request = record { file = string_bytes request.file; crew = crew_told request.crew }
+abbrev pub live_view : LiveRequest → LiveAsked
+live_view request = record { file = string_bytes request.file; crew = crew_view request.crew }
 
 -- the copiers before that of the console and of the drain: those of the movers, and then those of the links
 abbrev pub links_in : Option ServingAsked → ℕ
@@ -70,13 +69,12 @@ pub record Gate (A : Type 0) : Type 0 where
 abbrev pub gate : {A : Type 0} → (A → ℕ) → (A → Option Lists) → Gate A
 gate faults told = record { faults = faults; told = told }
 
--- there was no memory to go on with a link
-abbrev pub wanted : LinkEnd → Bool
-wanted link.Memory = true
-wanted _ = false
-
+-- there was no memory to go on with a link, or with one of those of a thread
 abbrev pub is_want : ServedView → Bool
-is_want s = wanted s.end
+is_want s = out_of_memory s.end
+
+abbrev pub is_lane_want : LaneView → Bool
+is_lane_want lane = lane.wants
 
 -- nor with a loop
 abbrev pub is_loop_want : LoopEnd → Bool
@@ -85,7 +83,7 @@ is_loop_want _ = false
 
 -- there was none for a link, a mover or a planner
 abbrev pub any_want : {A : Type 0} → LeftView A → Bool
-any_want l = list_any is_want l.links || (list_any is_loop_want l.movers || list_any is_loop_want l.planners)
+any_want l = (list_any is_want l.links || list_any is_lane_want l.lanes) || (list_any is_loop_want l.movers || list_any is_loop_want l.planners)
 
 -- how a drain ended, or what stands before it: want of memory
 abbrev pub or_want : Bool → DrainEnd → DrainEnd
@@ -96,6 +94,7 @@ or_want false d = d
 abbrev pub ended_live : FrontEnd → Bool → DrainEnd → End
 ended_live (front.Console e) want d = ended_by e (or_want want d)
 ended_live front.Accepted want d = drained_end (or_want want d)
+ended_live front.ShutDown want d = drained_end (or_want want d)
 ended_live front.ListenerFault want d = ListenerFault
 
 -- a team of this outside: the copier of the console and of the drain stands behind those of the movers and of the links
@@ -108,6 +107,7 @@ pub record IsTeamOf (crew : CrewAsked) (o : OutsideView) (t : TeamView) : Type 0
 pub record IsLeftOf {A : Type 0} (crew : CrewAsked) (l : LeftView A) (t : TeamView) : Type 0 where
   pub team : IsTeamOf crew l.outside t
   pub links : l.links ≡ t.front.service.served
+  pub lanes : l.lanes ≡ t.front.service.lanes
   pub movers : l.movers ≡ t.movers
   pub planners : l.planners ≡ t.planners
 
@@ -141,6 +141,7 @@ pub record IsLiveOf {A : Type 0} (admin : Gate A) (before : ℕ) (m : Meaning) (
 pub record IsIdle {A : Type 0} (o : OutsideView) (l : LeftView A) : Type 0 where
   pub outside : l.outside ≡ o
   pub links : l.links ≡ []
+  pub lanes : l.lanes ≡ []
   pub movers : l.movers ≡ []
   pub planners : l.planners ≡ []
   pub board : l.board ≡ None

@@ -1,5 +1,5 @@
 // The whole program, once the outside was made.
-ghost use Rattle.std.specs.Prelude.{◌≡◌, IfErr, IfOk, map, string_bytes, vec_len};
+ghost use Rattle.std.specs.Prelude.{◌≡◌, None, IfErr, IfOk, map, string_bytes, vec_len};
 ghost use Rattle.std.specs.Process.{exit_status};
 ghost use Rattle.std.specs.IoError.{error_kind};
 ghost use Rattle.quiet_commands.specs.Ends.{IsTold, lines_of, status_of};
@@ -44,6 +44,15 @@ fn exit_code(status: u8) -> ExitCode
     ensures { exit_status result ≡ status }
 {
     ExitCode::from(status)
+}
+
+/// Ends out of memory where nothing was begun. The error stream has its line.
+pub fn end_without_memory<O: Sink>(err: &mut O) -> ExitCode
+    ensures status { exit_status result ≡ status_of End.Memory }
+    ensures told { IsTold (lines_of None End.Memory) (O.written err.old) (O.written err.new)
+        (O.faults err.old) (O.faults err.new) }
+{
+    exit_code(conclude(err, &End::Memory, None))
 }
 
 // A copier in memory for each of 64 movers and 64 links, the most that words can ask for, and one
@@ -100,8 +109,7 @@ where
         (net_of N.faults N.accepted N.heard listener) result.1 end }
 {
     let Ok(copiers) = copiers(alloc) else {
-        let code = exit_code(conclude(err, &End::Memory, None));
-        return (code, lent(alloc, console, listener));
+        return (end_without_memory(err), lent(alloc, console, listener));
     };
     let outside = Outside {
         copiers,
@@ -114,7 +122,7 @@ where
 }
 
 /// Runs the words, if they can be had: [`run_live`] over a cluster in memory where they want
-/// threads, else [`run_quiet`](crate::run_quiet). The code is the status of how that ended, and the
+/// threads, else [`run_quiet`]. The code is the status of how that ended, and the
 /// error stream has its line. The console and the listener come back, with what a run with threads
 /// leaves. Words that can't be had end out of memory, or as a usage error where one is no text, and
 /// nothing is done.

@@ -7,8 +7,7 @@ mod laws;
 mod lives;
 mod outside;
 
-pub use entry::run_words;
+pub use entry::{end_without_memory, run_words};
 pub use laws::every_live_run;
 pub use lives::run_live;
 pub use outside::{Ended, Left, Outside};
-pub use quiet_commands::{End, run_quiet};

@@ -5,11 +5,12 @@ ghost use Rattle.cluster_json.specs.Ranges.{IsFile};
 ghost use Rattle.cluster_json.specs.Views.{file_seen};
 ghost use Rattle.control_core.specs.Books.{opened};
 ghost use Rattle.quiet_commands.specs.Ends.{IsTold, lines_of, status_of};
-ghost use Rattle.command_words.specs.Meaning.{workers_told};
-ghost use Rattle.cc_program.specs.Lives.{IsLeft, IsOver, IsTeamOf, IsUnasked, Leaves, board_left, copiers_before, crew_with, ended_live, gate, is_loop_want, live_command, live_told, or_want, shelf, wanted};
+ghost use Rattle.command_words.specs.Meaning.{workers_view};
+ghost use Rattle.cc_program.specs.Lives.{IsLeft, IsOver, IsTeamOf, IsUnasked, Leaves, board_left, copiers_before, crew_with, ended_live, gate, is_loop_want, live_command, live_view, or_want, shelf};
+ghost use Rattle.live_service.specs.Links.{out_of_memory};
 ghost use Rattle.cc_program.specs.Outside.{OutsideView};
 ghost use Rattle.quiet_commands.specs.declared.ends.End.{End};
-ghost use Rattle.live_service.specs.Asked.{IsReady, crew_told, links_of, serving_told};
+ghost use Rattle.live_service.specs.Asked.{IsReady, crew_view, links_of, serving_view};
 
 use crate::outside::{Ended, Left, Outside};
 use cc_base::{Files, Link, Sink};
@@ -18,13 +19,14 @@ use cluster_json::ClusterFile;
 use command_words::{Command, WordsFault, Workers, read_words};
 use control_core::Book;
 use live_service::{
-    Crew, Front, FrontEnd, Live, Of, Served, Service, Serving, Team, Unshared, run_live_service,
+    Crew, Front, FrontEnd, Lane, Live, Of, Served, Service, Serving, Team, Unshared, out_of_memory,
+    run_live_service,
 };
 use mover_rounds::DrainEnd;
 use mover_workers::LoopEnd;
 use net_links::Listener;
 use quiet_commands::{End, LoadFault, Request, conclude, drained_end, ended_by, load};
-use rest_session::{LinkEnd, SessionEnd};
+use rest_session::SessionEnd;
 use review_board::Board;
 use std::alloc::Global;
 use std::sync::Wait;
@@ -39,7 +41,7 @@ pub struct LiveRequest {
 
 // These movers and planners, and these links.
 fn crew_of(workers: Workers, serving: Option<Serving>, reviews: bool) -> Crew
-    ensures { crew_told result ≡ crew_with (workers_told workers) (serving_told serving) reviews }
+    ensures { crew_view result ≡ crew_with (workers_view workers) (serving_view serving) reviews }
 {
     Crew {
         movers: workers.movers,
@@ -51,7 +53,7 @@ fn crew_of(workers: Workers, serving: Option<Serving>, reviews: bool) -> Crew
 
 // What the words ask of a run with threads.
 fn read_live(alloc: Global, words: &[String]) -> Result<LiveRequest, WordsFault>
-    ensures ok { IfOk result (λ r. live_command (map string_bytes words.now) ≡ Some (live_told r)) }
+    ensures ok { IfOk result (λ r. live_command (map string_bytes words.now) ≡ Some (live_view r)) }
     ensures usage { IfErr result (λ e. e ≡ WordsFault.Usage
         → live_command (map string_bytes words.now) ≡ None) }
 {
@@ -67,6 +69,7 @@ fn read_live(alloc: Global, words: &[String]) -> Result<LiveRequest, WordsFault>
                 Some(Serving {
                     address: options.listen,
                     links: options.links,
+                    forever: options.forever,
                 }),
                 options.review,
             ),
@@ -95,8 +98,8 @@ fn copiers_before(crew: &Crew) -> usize
 
 // The same, where there are copiers enough beside that of the console.
 fn asked_live(alloc: Global, words: &[String], copiers: usize) -> Result<LiveRequest, WordsFault>
-    ensures ok { IfOk result (λ r. (live_command (map string_bytes words.now) ≡ Some (live_told r))
-        × (copiers_before (crew_told r.crew) < copiers)) }
+    ensures ok { IfOk result (λ r. (live_command (map string_bytes words.now) ≡ Some (live_view r))
+        × (copiers_before (crew_view r.crew) < copiers)) }
     ensures usage { IfErr result (λ e. e ≡ WordsFault.Usage
         → IsUnasked (map string_bytes words.now) copiers) }
 {
@@ -107,14 +110,7 @@ fn asked_live(alloc: Global, words: &[String], copiers: usize) -> Result<LiveReq
     Ok(request)
 }
 
-// Whether there was no memory to go on with a link.
-fn is_want(end: LinkEnd) -> bool
-    ensures { result ≡ wanted end }
-{
-    matches!(end, LinkEnd::Memory)
-}
-
-// Nor with a loop.
+// Whether there was no memory to go on with a loop.
 fn is_loop_want(end: LoopEnd) -> bool
     ensures { result ≡ is_loop_want end }
 {
@@ -123,9 +119,16 @@ fn is_loop_want(end: LoopEnd) -> bool
 
 // Whether there was none for one of these links.
 fn any_link_want<C>(links: &[Served<C>]) -> bool
-    ensures { result ≡ list_any (λ served. wanted served.end) links.now }
+    ensures { result ≡ list_any (λ served. out_of_memory served.end) links.now }
 {
-    links.iter().any(|served| is_want(served.end))
+    links.iter().any(|served| out_of_memory(served.end))
+}
+
+// Nor for a link of one of these threads.
+fn any_lane_want<N>(lanes: &[Lane<N>]) -> bool
+    ensures { result ≡ list_any (λ lane. lane.wants) lanes.now }
+{
+    lanes.iter().any(|lane| lane.wants)
 }
 
 // Nor for one of these loops.
@@ -136,12 +139,19 @@ fn any_loop_want(loops: &[LoopEnd]) -> bool
 }
 
 // Whether there was none for one of all these.
-fn any_want<C>(links: &[Served<C>], movers: &[LoopEnd], planners: &[LoopEnd]) -> bool
+fn any_want<C, N>(
+    links: &[Served<C>],
+    lanes: &[Lane<N>],
+    movers: &[LoopEnd],
+    planners: &[LoopEnd],
+) -> bool
     ensures { result
-        ≡ (list_any (λ served. wanted served.end) links.now
+        ≡ ((list_any (λ served. out_of_memory served.end) links.now
+        || list_any (λ lane. lane.wants) lanes.now)
         || (list_any is_loop_want movers.now || list_any is_loop_want planners.now)) }
 {
-    any_link_want(links) || any_loop_want(movers) || any_loop_want(planners)
+    (any_link_want(links) || any_lane_want(lanes))
+        || (any_loop_want(movers) || any_loop_want(planners))
 }
 
 // How the drain ended, unless there was no memory before.
@@ -159,7 +169,7 @@ fn ended_live(front: FrontEnd, want: bool, drain: DrainEnd) -> End
     let drain = or_want(want, drain);
     match front {
         FrontEnd::Console(link) => ended_by(SessionEnd { link, drain }),
-        FrontEnd::Accepted => drained_end(drain),
+        FrontEnd::Accepted | FrontEnd::ShutDown => drained_end(drain),
         FrontEnd::ListenerFault => End::ListenerFault,
     }
 }
@@ -173,9 +183,9 @@ fn team_of<A: Admin + Send, K: Copier + Send + Drop, L: Link + Drop, N: Listener
 ) -> Result<Team<Of<A, K, L, N>>, Outside<K, L, N>>
 where
     N::Conn: Send + Drop,
-    requires enough { copiers_before (crew_told crew.now) < length outside.copiers }
-    requires few { crew.now.planners + copiers_before (crew_told crew.now) < 1048576 }
-    ensures team { IfOk result (IsTeamOf (crew_told crew.now) outside) }
+    requires enough { copiers_before (crew_view crew.now) < length outside.copiers }
+    requires few { crew.now.planners + copiers_before (crew_view crew.now) < 1048576 }
+    ensures team { IfOk result (IsTeamOf (crew_view crew.now) outside) }
     ensures ready { IfOk result
         (λ t. IsReady t 1048576 1048576 crew.now.movers crew.now.planners
         (links_of crew.now.serving)) }
@@ -184,6 +194,9 @@ where
     ensures handed_back { IfErr result (λ o. o ≡ outside) }
 {
     let Ok(served) = Vec::with_capacity(alloc, links_in(&crew.serving) as usize) else {
+        return Err(outside);
+    };
+    let Ok(lanes) = Vec::with_capacity(alloc, links_in(&crew.serving) as usize) else {
         return Err(outside);
     };
     let Ok(movers) = Vec::with_capacity(alloc, crew.movers as usize) else {
@@ -202,6 +215,7 @@ where
         listener,
         copiers,
         served,
+        lanes,
     };
     Ok(Team {
         front: Front {
@@ -239,6 +253,7 @@ where
             net = team.front.service.net;
           };
           links = team.front.service.served;
+          lanes = team.front.service.lanes;
           movers = team.movers;
           planners = team.planners;
         } }
@@ -257,6 +272,7 @@ where
         listener,
         mut copiers,
         served,
+        lanes,
     } = service;
     let Ok(()) = copiers.insert(at, copier) else {
         unreachable!()
@@ -272,6 +288,7 @@ where
             listener,
         },
         links: served,
+        lanes,
         movers,
         planners,
     }
@@ -308,14 +325,14 @@ where
     requires room { length team.front.service.copiers < team.front.service.room }
     // The book comes back, behind what the session did.
     ensures begun { IsSome result.1.book }
-    ensures over { (outside : OutsideView) → IsTeamOf (crew_told crew) outside team
+    ensures over { (outside : OutsideView) → IsTeamOf (crew_view crew) outside team
         → IfSome result.1.book
-        (λ c. IsOver (gate A.faults A.told) (A.faults book.admin) book.file (crew_told crew)
+        (λ c. IsOver (gate A.faults A.told) (A.faults book.admin) book.file (crew_view crew)
         outside result.1 c result.0) }
 {
     let at = copiers_before(&crew);
     let reviews = crew.reviews;
-    let _lists = book.journal();
+    let _lists = book.entries();
     match run_live_service(rt, alloc, book, team, crew) {
         Ok(live) => {
             let Live {
@@ -327,7 +344,7 @@ where
             } = live;
             let board = board_left(reviews, board);
             let left = left_of(at, Some(book), None, board, Some(drain), team);
-            let want = any_want(&left.links, &left.movers, &left.planners);
+            let want = any_want(&left.links, &left.lanes, &left.movers, &left.planners);
             (ended_live(end, want, drain), left)
         }
         Err(Unshared { book, team }) => {
@@ -356,9 +373,9 @@ fn begin<
 where
     N::Conn: Send + Drop,
     requires file { IsFile file }
-    requires enough { copiers_before (crew_told crew) < length outside.copiers }
-    requires few { crew.planners + copiers_before (crew_told crew) < 1048576 }
-    ensures left { IsLeft (gate A.faults A.told) (file_seen file) (crew_told crew) outside admin
+    requires enough { copiers_before (crew_view crew) < length outside.copiers }
+    requires few { crew.planners + copiers_before (crew_view crew) < 1048576 }
+    ensures left { IsLeft (gate A.faults A.told) (file_seen file) (crew_view crew) outside admin
         result.1 result.0 }
 {
     let team = match team_of(alloc, outside, &crew) {

@@ -5,7 +5,7 @@ ghost use Rattle.cc_program.specs.Outside.{idle};
 use cc_base::Link;
 use cluster_gate::{Admin, Copier};
 use control_core::Book;
-use live_service::Served;
+use live_service::{Lane, Served};
 use mover_rounds::DrainEnd;
 use mover_workers::LoopEnd;
 use net_links::Listener;
@@ -62,8 +62,10 @@ where
     /// How the drain ended, where there was one.
     pub drain: Option<DrainEnd>,
     pub outside: Outside<K, L, N>,
-    /// The links that were accepted, in their order.
+    /// The links that were accepted, in their order, where so many were asked for.
     pub links: Vec<Served<N::Conn>>,
+    /// The threads that served any number of links.
+    pub lanes: Vec<Lane<N>>,
     /// How the loops of movers ended, in the order of their copiers.
     pub movers: Vec<LoopEnd>,
     /// How those of planners ended.
@@ -76,7 +78,7 @@ where
 {
     ghost use Rattle.std.specs.Prelude.{map};
     ghost use Rattle.cc_program.specs.Outside.{LeftView};
-    ghost use Rattle.live_service.specs.Views.{link_of};
+    ghost use Rattle.live_service.specs.Views.{lane_of, link_of, net_of};
 
     ghost Value = { LeftView A };
 
@@ -90,6 +92,8 @@ where
         link = link_of N.Conn.left N.Conn.written N.Conn.Source.faults N.Conn.Sink.faults c.link;
         end = c.end;
       }) l.links.items;
+      lanes = map (λ x. lane_of (net_of N.faults N.accepted N.heard) x.listener x.failed x.wants)
+          l.lanes.items;
       movers = l.movers.items;
       planners = l.planners.items;
     } };
@@ -114,6 +118,7 @@ where
             drain: None,
             outside,
             links: Vec::new(alloc),
+            lanes: Vec::new(alloc),
             movers: Vec::new(alloc),
             planners: Vec::new(alloc),
         }

@@ -60,10 +60,13 @@ abbrev pub listen_rule : Rule
 listen_rule = option_with_default (codes "listen") (codes "127.0.0.1:9090")
 
 abbrev pub links_rule : Rule
-links_rule = option_with_default (codes "links") (codes "1")
+links_rule = option (codes "links")
 
 abbrev pub review_rule : Rule
 review_rule = flag (codes "review")
+
+abbrev pub forever_rule : Rule
+forever_rule = flag (codes "forever")
 
 abbrev pub plan_app : App
 plan_app = with_rule (with_rule (with_rule (with_rule (with_rule (new_app (codes "plan")) file_rule) goals_rule) skip_rule) excluded_rule) trace_flag_rule
@@ -81,7 +84,7 @@ abbrev pub session_app : App
 session_app = with_rule (with_rule (with_rule (with_rule (new_app (codes "session")) file_rule) movers_rule) planners_rule) review_rule
 
 abbrev pub serve_app : App
-serve_app = with_rule (with_rule (with_rule (with_rule (with_rule (with_rule (new_app (codes "serve")) file_rule) movers_rule) planners_rule) listen_rule) links_rule) review_rule
+serve_app = with_rule (with_rule (with_rule (with_rule (with_rule (with_rule (with_rule (new_app (codes "serve")) file_rule) movers_rule) planners_rule) listen_rule) links_rule) review_rule) forever_rule
 
 -- the program: no name of its own stands before the command, and a command has to stand there
 abbrev pub program : App

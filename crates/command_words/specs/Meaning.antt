@@ -61,6 +61,7 @@ pub record ServeAsked : Type 0 where
   pub listen : Text
   pub links : ℕ
   pub review : Bool
+  pub forever : Bool
 
 -- what is asked
 pub data Asked : Type 0 where
@@ -156,11 +157,27 @@ session_with rows file workers = record { file = file; workers = workers; review
 abbrev pub session_of : List Row → Option SessionAsked
 session_of rows = option_and_then (λ file. option_map (session_with rows file) (workers_of rows)) (first_of (codes "FILE") rows)
 
+-- links are accepted without end
+abbrev pub forever_of : List Row → Bool
+forever_of rows = is_given (first_of (codes "forever") rows)
+
+-- 1 to 64 links; where no number is given, 16 where they are accepted without end, and else 1
+abbrev pub links_asked : Bool → Option Text → Option ℕ
+links_asked forever None = Some (if forever then 16 else 1)
+links_asked forever (Some text) = number_in 1 64 (Some text)
+
 abbrev pub links_of : List Row → Option ℕ
-links_of rows = number_in 1 64 (first_of (codes "links") rows)
+links_of rows = links_asked (forever_of rows) (first_of (codes "links") rows)
 
 abbrev pub serve_with : List Row → Text → WorkersAsked → Text → ℕ → ServeAsked
-serve_with rows file workers listen links = record { file = file; workers = workers; listen = listen; links = links; review = review_of rows }
+serve_with rows file workers listen links = record {
+  file = file;
+  workers = workers;
+  listen = listen;
+  links = links;
+  review = review_of rows;
+  forever = forever_of rows;
+}
 
 abbrev pub serve_of : List Row → Option ServeAsked
 serve_of rows = option_and_then (λ file. option_and_then (λ workers. option_and_then (λ listen. option_map (serve_with rows file workers listen) (links_of rows)) (first_of (codes "listen") rows)) (workers_of rows)) (first_of (codes "FILE") rows)
@@ -187,34 +204,41 @@ meaning words = unless_refused (fault_of the_app words) (option_and_then asked_o
 
 -- ---- the same as a value of the program
 
-abbrev pub goals_told : Goals → GoalsAsked
-goals_told g = record { names = g.names.items; skip_hard_goal_check = g.skip_hard_goal_check }
+abbrev pub goals_view : Goals → GoalsAsked
+goals_view g = record { names = g.names.items; skip_hard_goal_check = g.skip_hard_goal_check }
 
-abbrev pub plan_told : PlanOptions → PlanAsked
-plan_told o = record { file = string_bytes o.file; goals = goals_told o.goals; excluded_topics = o.excluded_topics.items; trace = o.trace }
+abbrev pub plan_view : PlanOptions → PlanAsked
+plan_view o = record { file = string_bytes o.file; goals = goals_view o.goals; excluded_topics = o.excluded_topics.items; trace = o.trace }
 
-abbrev pub check_told : CheckOptions → CheckAsked
-check_told o = record { file = string_bytes o.file; trace = string_bytes o.trace; goals = goals_told o.goals; excluded_topics = o.excluded_topics.items }
+abbrev pub check_view : CheckOptions → CheckAsked
+check_view o = record { file = string_bytes o.file; trace = string_bytes o.trace; goals = goals_view o.goals; excluded_topics = o.excluded_topics.items }
 
-abbrev pub apply_told : ApplyOptions → ApplyAsked
-apply_told o = record { file = string_bytes o.file; goals = goals_told o.goals; excluded_topics = o.excluded_topics.items }
+abbrev pub apply_view : ApplyOptions → ApplyAsked
+apply_view o = record { file = string_bytes o.file; goals = goals_view o.goals; excluded_topics = o.excluded_topics.items }
 
-abbrev pub gen_told : GenOptions → GenAsked
-gen_told o = record { seed = o.seed; goals = goals_told o.goals; file = o.file; brokers = o.brokers; partitions = o.partitions }
+abbrev pub gen_view : GenOptions → GenAsked
+gen_view o = record { seed = o.seed; goals = goals_view o.goals; file = o.file; brokers = o.brokers; partitions = o.partitions }
 
-abbrev pub workers_told : Workers → WorkersAsked
-workers_told w = record { movers = w.movers; planners = w.planners }
+abbrev pub workers_view : Workers → WorkersAsked
+workers_view w = record { movers = w.movers; planners = w.planners }
 
-abbrev pub session_told : SessionOptions → SessionAsked
-session_told o = record { file = string_bytes o.file; workers = workers_told o.workers; review = o.review }
+abbrev pub session_view : SessionOptions → SessionAsked
+session_view o = record { file = string_bytes o.file; workers = workers_view o.workers; review = o.review }
 
-abbrev pub serve_told : ServeOptions → ServeAsked
-serve_told o = record { file = string_bytes o.file; workers = workers_told o.workers; listen = string_bytes o.listen; links = o.links; review = o.review }
+abbrev pub serve_view : ServeOptions → ServeAsked
+serve_view o = record {
+  file = string_bytes o.file;
+  workers = workers_view o.workers;
+  listen = string_bytes o.listen;
+  links = o.links;
+  review = o.review;
+  forever = o.forever;
+}
 
 abbrev pub told : Command → Asked
-told (command.Plan o) = plan (plan_told o)
-told (command.Check o) = check (check_told o)
-told (command.Apply o) = apply (apply_told o)
-told (command.Gen o) = gen (gen_told o)
-told (command.Session o) = session (session_told o)
-told (command.Serve o) = serve (serve_told o)
+told (command.Plan o) = plan (plan_view o)
+told (command.Check o) = check (check_view o)
+told (command.Apply o) = apply (apply_view o)
+told (command.Gen o) = gen (gen_view o)
+told (command.Session o) = session (session_view o)
+told (command.Serve o) = serve (serve_view o)

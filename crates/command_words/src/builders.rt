@@ -77,7 +77,8 @@ fn serve_command<'a>(alloc: Global) -> Result<Command<'a>, AllocError>
     let with_planners = with_movers.arg(arguments::planners(alloc))?;
     let with_listen = with_planners.arg(arguments::listen(alloc))?;
     let with_links = with_listen.arg(arguments::links(alloc))?;
-    with_links.arg(arguments::review(alloc))
+    let with_review = with_links.arg(arguments::review(alloc))?;
+    with_review.arg(arguments::forever(alloc))
 }
 
 /// The program with its six commands.

@@ -85,10 +85,12 @@ pub struct ServeOptions {
     pub workers: Workers,
     /// The address and the port to listen at. Any text: the listener reads it.
     pub listen: String,
-    /// How many links are served: 1 to 64.
+    /// How many links are served, in all or at once: 1 to 64.
     pub links: u32,
     /// What starts something is reviewed first.
     pub review: bool,
+    /// Links are accepted without end, so many at once, until a request asks for the end.
+    pub forever: bool,
 }
 
 /// A command with its options.

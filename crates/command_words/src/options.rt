@@ -2,7 +2,7 @@
 ghost use Rattle.std.specs.Prelude.{◌≡◌, IfOk, option_and_then, option_map};
 ghost use Rattle.clap.specs.Words.{found_of, rows_of, subcommand_rows_of};
 ghost use Rattle.command_words.specs.Names.{names_of};
-ghost use Rattle.command_words.specs.Meaning.{apply_of, apply_told, asked_of, check_of, check_told, excluded_of, gen_of, gen_told, goals_of, goals_told, plan_of, plan_told, review_of, serve_of, serve_told, session_of, session_told, told, workers_of, workers_told};
+ghost use Rattle.command_words.specs.Meaning.{apply_of, apply_view, asked_of, check_of, check_view, excluded_of, forever_of, gen_of, gen_view, goals_of, goals_view, links_of, plan_of, plan_view, review_of, serve_of, serve_view, session_of, session_view, told, workers_of, workers_view};
 
 use crate::commands::{
     ApplyOptions, CheckOptions, Command, GenOptions, Goals, PlanOptions, ServeOptions,
@@ -25,7 +25,7 @@ fn names_of<K>(alloc: Global, text: Option<&str>) -> Result<Vec<Name<K>>, AllocE
 
 #[tactic(auto, using(crate::proofs::Rows::first_text))]
 fn goals(alloc: Global, found: &ArgMatches<'_>) -> Result<Goals, AllocError>
-    ensures { IfOk result (λ g. goals_told g ≡ goals_of (rows_of (found_of found.now))) }
+    ensures { IfOk result (λ g. goals_view g ≡ goals_of (rows_of (found_of found.now))) }
 {
     Ok(Goals {
         names: names_of(alloc, found.get_str("goals"))?,
@@ -42,7 +42,7 @@ fn excluded_topics(alloc: Global, found: &ArgMatches<'_>) -> Result<Vec<Topic>, 
 
 #[tactic(auto, using(crate::proofs::Rows::first_text))]
 fn plan_options(alloc: Global, found: &ArgMatches<'_>) -> Result<Option<PlanOptions>, AllocError>
-    ensures { IfOk result (λ o. option_map plan_told o ≡ plan_of (rows_of (found_of found.now))) }
+    ensures { IfOk result (λ o. option_map plan_view o ≡ plan_of (rows_of (found_of found.now))) }
 {
     let Some(file) = found.get_str("FILE") else {
         return Ok(None);
@@ -57,7 +57,7 @@ fn plan_options(alloc: Global, found: &ArgMatches<'_>) -> Result<Option<PlanOpti
 
 #[tactic(auto, using(crate::proofs::Rows::first_text))]
 fn check_options(alloc: Global, found: &ArgMatches<'_>) -> Result<Option<CheckOptions>, AllocError>
-    ensures { IfOk result (λ o. option_map check_told o ≡ check_of (rows_of (found_of found.now))) }
+    ensures { IfOk result (λ o. option_map check_view o ≡ check_of (rows_of (found_of found.now))) }
 {
     let Some(file) = found.get_str("FILE") else {
         return Ok(None);
@@ -75,7 +75,7 @@ fn check_options(alloc: Global, found: &ArgMatches<'_>) -> Result<Option<CheckOp
 
 #[tactic(auto, using(crate::proofs::Rows::first_text))]
 fn apply_options(alloc: Global, found: &ArgMatches<'_>) -> Result<Option<ApplyOptions>, AllocError>
-    ensures { IfOk result (λ o. option_map apply_told o ≡ apply_of (rows_of (found_of found.now))) }
+    ensures { IfOk result (λ o. option_map apply_view o ≡ apply_of (rows_of (found_of found.now))) }
 {
     let Some(file) = found.get_str("FILE") else {
         return Ok(None);
@@ -89,7 +89,7 @@ fn apply_options(alloc: Global, found: &ArgMatches<'_>) -> Result<Option<ApplyOp
 
 #[tactic(auto, using(crate::proofs::Rows::first_text))]
 fn gen_options(alloc: Global, found: &ArgMatches<'_>) -> Result<Option<GenOptions>, AllocError>
-    ensures { IfOk result (λ o. option_map gen_told o ≡ gen_of (rows_of (found_of found.now))) }
+    ensures { IfOk result (λ o. option_map gen_view o ≡ gen_of (rows_of (found_of found.now))) }
 {
     let Some(seed) = number_in(0, 2_147_483_647, found.get_str("SEED")) else {
         return Ok(None);
@@ -111,7 +111,7 @@ fn gen_options(alloc: Global, found: &ArgMatches<'_>) -> Result<Option<GenOption
 
 #[tactic(auto, using(crate::proofs::Rows::first_text))]
 fn workers(found: &ArgMatches<'_>) -> Option<Workers>
-    ensures { option_map workers_told result ≡ workers_of (rows_of (found_of found.now)) }
+    ensures { option_map workers_view result ≡ workers_of (rows_of (found_of found.now)) }
 {
     let movers = number_in(0, 64, found.get_str("movers"))?;
     let planners = number_in(0, 4, found.get_str("planners"))?;
@@ -131,7 +131,7 @@ fn session_options(
     found: &ArgMatches<'_>,
 ) -> Result<Option<SessionOptions>, AllocError>
     ensures { IfOk result
-        (λ o. option_map session_told o ≡ session_of (rows_of (found_of found.now))) }
+        (λ o. option_map session_view o ≡ session_of (rows_of (found_of found.now))) }
 {
     let Some(file) = found.get_str("FILE") else {
         return Ok(None);
@@ -147,8 +147,26 @@ fn session_options(
 }
 
 #[tactic(auto, using(crate::proofs::Rows::first_text))]
+fn forever(found: &ArgMatches<'_>) -> bool
+    ensures { result ≡ forever_of (rows_of (found_of found.now)) }
+{
+    is_given(found.get_str("forever"))
+}
+
+#[tactic(auto, using(crate::proofs::Rows::first_text))]
+fn links(found: &ArgMatches<'_>) -> Option<u32>
+    ensures { result ≡ links_of (rows_of (found_of found.now)) }
+{
+    match found.get_str("links") {
+        Some(text) => number_in(1, 64, Some(text)),
+        None if forever(found) => Some(16),
+        None => Some(1),
+    }
+}
+
+#[tactic(auto, using(crate::proofs::Rows::first_text))]
 fn serve_options(alloc: Global, found: &ArgMatches<'_>) -> Result<Option<ServeOptions>, AllocError>
-    ensures { IfOk result (λ o. option_map serve_told o ≡ serve_of (rows_of (found_of found.now))) }
+    ensures { IfOk result (λ o. option_map serve_view o ≡ serve_of (rows_of (found_of found.now))) }
 {
     let Some(file) = found.get_str("FILE") else {
         return Ok(None);
@@ -159,7 +177,7 @@ fn serve_options(alloc: Global, found: &ArgMatches<'_>) -> Result<Option<ServeOp
     let Some(listen) = found.get_str("listen") else {
         return Ok(None);
     };
-    let Some(links) = number_in(1, 64, found.get_str("links")) else {
+    let Some(links) = links(found) else {
         return Ok(None);
     };
     Ok(Some(ServeOptions {
@@ -168,6 +186,7 @@ fn serve_options(alloc: Global, found: &ArgMatches<'_>) -> Result<Option<ServeOp
         listen: String::from_str(alloc, listen)?,
         links,
         review: review(found),
+        forever: forever(found),
     }))
 }
 

@@ -1,5 +1,5 @@
 // The book.
-ghost use Rattle.std.specs.Prelude.{◌≡◌, ◌↔◌, ◌++◌, ◌∷◌, ◌≤◌, [], true, IsTrue, IfOk, IfErr, IfSome, MatchResult, OnOk, OnErr};
+ghost use Rattle.std.specs.Prelude.{◌≡◌, ◌↔◌, ◌++◌, ◌∷◌, ◌<◌, ◌≤◌, ◌^◌, [], length, true, IsTrue, IfOk, IfErr, IfSome, MatchResult, OnOk, OnErr};
 ghost use Rattle.std.specs.List.{list_any};
 ghost use Rattle.cc_base.specs.Outside.{HasRisen};
 ghost use Rattle.cluster_gate.specs.Calls.{with_call};
@@ -15,13 +15,14 @@ ghost use Rattle.core_laws.specs.Alone.{IsQuiet};
 ghost use Rattle.core_laws.specs.Events.{is_close};
 ghost use Rattle.exec_terms.specs.Machine.{lists_now};
 
-use crate::journal::{enter, is_legal};
+use crate::journal::is_legal;
 use crate::machine::Machine;
 use cluster_gate::{Admin, InstallFault};
 use cluster_json::ClusterFile;
 use core_terms::{Event, Reply, StepFault};
 use std::alloc::Global;
 use std::marker::Model;
+use turn_book::Journal;
 
 /// A service's book: its state, the journal of the events that it took, and the admin that it
 /// writes lists to.
@@ -29,7 +30,7 @@ use std::marker::Model;
 pub struct Book<A: Admin> {
     alloc: Global,
     machine: Machine,
-    journal: Vec<Event>,
+    journal: Journal<Event>,
     failures: u64,
     late: u64,
     settled: bool,
@@ -37,14 +38,13 @@ pub struct Book<A: Admin> {
 }
 
 impl<A: Admin> Model for Book<A> {
-    ghost use Rattle.std.specs.Prelude.{vec_capacity};
     ghost use Rattle.control_core.specs.Books.{BookView, IsBook};
 
     ghost Value = { BookView A };
 
     ghost view = { λ b. record {
       file = b.machine.file;
-      journal = b.journal.items;
+      journal = b.journal.events;
       failures = b.failures;
       late = b.late;
       settled = b.settled;
@@ -52,7 +52,7 @@ impl<A: Admin> Model for Book<A> {
     } };
 
     ghost invariant = { λ b. IsBook (A.told b.admin) (A.parts b.admin) (A.faults b.admin) b.machine
-        b.journal.items (vec_capacity b.journal) b.failures b.late };
+        b.journal.events b.journal.room b.failures b.late };
 }
 
 impl<A: Admin> Book<A> {
@@ -87,7 +87,7 @@ impl<A: Admin> Book<A> {
         let Ok(machine) = Machine::open(alloc, file) else {
             return Err((InstallFault::Memory, admin));
         };
-        let mut journal = Vec::new(alloc);
+        let mut journal = Journal::new(alloc);
         if journal.reserve(1).is_err() {
             return Err((InstallFault::Memory, admin));
         }
@@ -146,22 +146,23 @@ impl<A: Admin> Book<A> {
         }
         match self.machine.serve(self.alloc, &event) {
             Ok(reply) => {
-                enter(&mut self.journal, event);
+                self.journal.enter(event);
                 Ok(reply)
             }
             Err(_) => Err((StepFault::Memory, event)),
         }
     }
 
-    /// The events that the book took, in order.
-    pub fn journal(&self) -> &[Event]
-        ensures value { result.now ≡ self.now.journal }
+    /// How many events the book took.
+    pub fn entries(&self) -> u64
+        ensures value { result ≡ length self.now.journal }
+        ensures short { result < 2 ^ 63 }
         ensures legal { AreLegal self.now.journal }
         ensures input { IsInput self.now.file }
         ensures lists { IfSome (A.told self.now.admin)
             (λ lists. lists ≡ lists_now (state_of self.now).desk.exec) }
     {
-        self.journal.as_slice()
+        self.journal.len()
     }
 
     /// How many faults of the admin the book answered, at most as many as the admin had.

@@ -1,5 +1,5 @@
 // What goes with an entry of the journal: room for it, the call of the admin, and what it is.
-ghost use Rattle.std.specs.Prelude.{◌≡◌, ◌++◌, ◌∷◌, [], ◌+◌, ◌<◌, ◌≤◌, ◌^◌, true, IsOk, OnErr, OnOk, length, vec_capacity, if◌then◌else◌};
+ghost use Rattle.std.specs.Prelude.{◌≡◌, ◌+◌, ◌<◌, ◌≤◌, ◌^◌, true, IsOk, OnErr, OnOk, length, if◌then◌else◌};
 ghost use Rattle.cc_base.specs.Outside.{HasRisen};
 ghost use Rattle.core_terms.specs.History.{IsLegal, is_outward, is_sure, kept_for};
 ghost use Rattle.core_terms.specs.Sound.{AreTickets};
@@ -12,16 +12,7 @@ use cc_base::Failed;
 use cluster_gate::Admin;
 use core_terms::Event;
 use plan_terms::Memory;
-
-/// Adds an entry for which there is room.
-pub fn enter(journal: &mut Vec<Event>, event: Event)
-    requires { length journal.old.items < vec_capacity journal.old }
-    ensures items { journal.new.items ≡ journal.old.items ++ event ∷ [] }
-    ensures capacity { vec_capacity journal.old ≤ vec_capacity journal.new }
-    ensures short { length journal.new.items < 2 ^ 63 }
-{
-    let _ = journal.push(event);
-}
+use turn_book::Journal;
 
 /// An event is legal by what its parts keep.
 pub fn is_legal(event: &Event)
@@ -47,17 +38,15 @@ pub fn is_legal(event: &Event)
 impl Machine {
     /// Makes room in the journal for the entry of an event and, where it is not sure, for one that
     /// it may call for.
-    pub fn make_room(&self, journal: &mut Vec<Event>, event: &Event) -> Result<(), Memory>
+    pub fn make_room(&self, journal: &mut Journal<Event>, event: &Event) -> Result<(), Memory>
         requires tickets { AreTickets self.now.desk }
-        requires room { length journal.old.items + kept_for self.now.desk
-            ≤ vec_capacity journal.old }
-        ensures items { journal.new.items ≡ journal.old.items }
+        requires room { length journal.old.events + kept_for self.now.desk ≤ journal.old.room }
+        ensures events { journal.new.events ≡ journal.old.events }
         ensures room { OnOk result
-            (length journal.old.items +
+            (length journal.old.events +
             (if is_sure self.now.desk event.now then kept_for self.now.desk else kept_for
-            self.now.desk + 2) ≤ vec_capacity journal.new) }
-        ensures kept { length journal.old.items + kept_for self.now.desk
-            ≤ vec_capacity journal.new }
+            self.now.desk + 2) ≤ journal.new.room) }
+        ensures kept { length journal.old.events + kept_for self.now.desk ≤ journal.new.room }
         ensures sure { is_sure self.now.desk event.now ≡ true → IsOk result }
     {
         if self.desk.is_sure(event) {

@@ -58,7 +58,7 @@ impl<A: Admin> Journaled for Book<A> {
     }
 
     fn entries(&self) -> u64 {
-        self.journal().len() as u64
+        Book::entries(self)
     }
 
     fn blame_so_far(&self) -> u64 {

@@ -191,7 +191,10 @@ fn run_rows<R: Threads + Sync + Abort>(
     assert!(rt; run.book.parts() > 0);
     assert_eq!(rt; run.book.admin().inner().list(0), list);
     assert_eq!(rt; run.book.failures(), failing.len() as u64);
-    assert_eq!(rt; run.book.journal().len() + failing.len(), rows.len());
+    assert_eq!(rt;
+        run.book.entries() + failing.len() as u64,
+        rows.len() as u64
+    );
 }
 
 const FORCED: [(Step, &str); 10] = [

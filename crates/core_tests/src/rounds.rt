@@ -90,7 +90,7 @@ struct Row {
     copier: &'static [u64],
     steps: &'static [(Step, &'static str)],
     list: &'static [u32],
-    entries: usize,
+    entries: u64,
 }
 
 const ROWS: [Row; 6] = [
@@ -157,10 +157,10 @@ fn expect_step<R: Threads + Sync + Abort>(
     assert_eq!(rt; end.as_str(), wanted);
 }
 
-fn expect_end<R: Abort>(rt: &R, run: &Run, list: &[u32], entries: usize) {
+fn expect_end<R: Abort>(rt: &R, run: &Run, list: &[u32], entries: u64) {
     assert!(rt; run.book.parts() > 0);
     assert_eq!(rt; run.book.admin().inner().list(0), list);
-    assert_eq!(rt; run.book.journal().len(), entries);
+    assert_eq!(rt; run.book.entries(), entries);
 }
 
 fn run_row<R: Threads + Sync + Abort>(rt: &R, alloc: Global, row: &Row) {
@@ -180,7 +180,7 @@ fn pumps_and_drains_end_as_their_admin_and_copier_say(rt: HostRuntime) {
 
 // A stop or a death, after how many rounds it comes, its answer, and the only member of the list and
 // the number of entries in the end. The first round plans, the second copies, the third commits.
-type Disturbance = (u32, Step, &'static str, u32, usize);
+type Disturbance = (u32, Step, &'static str, u32, u64);
 
 const DISTURBANCES: [Disturbance; 13] = [
     (1, Step::Stop(true), "1 0", 0, 6),

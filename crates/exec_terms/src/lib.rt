@@ -15,7 +15,6 @@ pub use brokers::Host;
 pub use laws::every_execution;
 pub use lists::{differs, union};
 pub use phase::Phase;
-pub use plan_terms::Caps;
 pub use replies::{
     Faults, Given, Idle, KillFault, Killed, LaunchFault, LeaseFault, Left, NothingToStop, Stopped,
 };

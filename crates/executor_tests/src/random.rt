@@ -1,4 +1,4 @@
-// Made by tools/executions.
+// Made by ./sumpharu-tools executions.
 use crate::runs::{Call, Row};
 
 const EXECUTION_0: [Row; 40] = [

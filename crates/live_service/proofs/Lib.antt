@@ -3,6 +3,7 @@ pub mod Crews
 pub mod Gone
 pub mod Teams
 pub mod Accepting
+pub mod Laning
 pub mod Fronting
 pub mod Sharing
 pub mod Unclosed

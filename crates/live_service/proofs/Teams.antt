@@ -48,12 +48,12 @@ module _ {A : Type 0} (b kept own u back w : CallerView A) (turn_kept : kept.tur
   Did m f g old new v x = HasFronted (HasAnswered m.start.file asked d e f g end old new) v x
 
   pub mover_more : (k l : Copies) (ended : LoopEnd) (movers fewer : ℕ) → movers ≡ suc fewer
-      → s.front.service.copiers ≡ k ∷ s1.front.service.copiers → s.front.service.room ≤ s1.front.service.room → s.front.service.places ≤ s1.front.service.places → s.mover_room ≤ s1.mover_room → s1.planners ≡ s.planners → s.planner_room ≤ s1.planner_room
+      → s.front.service.copiers ≡ k ∷ s1.front.service.copiers → s.front.service.room ≤ s1.front.service.room → s.front.service.places ≤ s1.front.service.places → s.front.service.lane_room ≤ s1.front.service.lane_room → s.mover_room ≤ s1.mover_room → s1.planners ≡ s.planners → s.planner_room ≤ s1.planner_room
       → HasMoved (known_by_caller own) (known_by_caller back) k l ended → IsLoopCause (known_by_caller own) (known_by_caller back) ended
       → HasRunMovers asked kept u d e s1 t1 end fewer
-      → t.front.service.copiers ≡ l ∷ t1.front.service.copiers → t1.front.service.room ≤ t.front.service.room → t1.front.service.places ≤ t.front.service.places → t.movers ≡ ended ∷ t1.movers → t1.mover_room ≤ t.mover_room → t.planners ≡ t1.planners → t1.planner_room ≤ t.planner_room
+      → t.front.service.copiers ≡ l ∷ t1.front.service.copiers → t1.front.service.room ≤ t.front.service.room → t1.front.service.places ≤ t.front.service.places → t1.front.service.lane_room ≤ t.front.service.lane_room → t.movers ≡ ended ∷ t1.movers → t1.mover_room ≤ t.mover_room → t.planners ≡ t1.planners → t1.planner_room ≤ t.planner_room
       → HasRunMovers asked b w d e s t end movers
-  mover_more k l ended movers fewer one taken room places mover_room planners planner_room moved cause h given more_room more_places noted more_movers planners_back more_planners =
+  mover_more k l ended movers fewer one taken room places lane_room mover_room planners planner_room moved cause h given more_room more_places more_lanes noted more_movers planners_back more_planners =
       let did : List Copies → List Copies → Pass → Pass → Type 0 = Did b.turn (told_of s1.front) (told_of t1.front) in
       let run : HasRun did b.turn.start.file kept.pass u.pass s1.front.service.copiers t1.front.service.copiers t1.movers fewer =
       subst (λ (m : Made (BookView A)). HasRun (Did m (told_of s1.front) (told_of t1.front)) m.start.file kept.pass u.pass s1.front.service.copiers t1.front.service.copiers t1.movers fewer) turn_kept h.run in
@@ -69,6 +69,7 @@ module _ {A : Type 0} (b kept own u back w : CallerView A) (turn_kept : kept.tur
           copiers = rw taken (rw given (ap suc h.back.copiers));
           room = (let c = h.back.room in omega (arith, room, c, more_room));
           places = (let c = h.back.places in omega (arith, places, c, more_places));
+          lane_room = (let c = h.back.lane_room in omega (arith, lane_room, c, more_lanes));
         };
         mover_room = (let c = h.mover_room in omega (arith, mover_room, c, more_movers));
         planners = planners_back ∙ (h.planners ∙ planners);

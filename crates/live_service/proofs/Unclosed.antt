@@ -34,6 +34,7 @@ use Rattle.mover_workers.specs.declared.steps.Step.TheVariants.{Closed, Done, Id
 use Rattle.rest_session.proofs.Spared.{AreFree, IsSpared, both_free, close_spared, drained_free, heal_spared, none_has, pieces_open, plan_free, reviewed_no_fix, work_free}
 use Rattle.rest_session.specs.Answered.{HasServed}
 use Rattle.rest_session.specs.Heals.{is_heal}
+use Rattle.rest_session.specs.Heard.{Offers}
 use Rattle.rest_session.specs.Pieces.{IsPiece, Piece, in_order}
 use Rattle.rest_session.specs.declared.session.LinkEnd.{LinkEnd}
 use Rattle.turn_book.specs.Rule.{once_below, times}
@@ -41,9 +42,11 @@ use Rattle.live_service.specs.Asked.{ServingAsked}
 use Rattle.live_service.specs.Closing.{HasFronted}
 use Rattle.mover_workers.specs.Close.{HasClosed, IsClosed}
 use Rattle.live_service.specs.Boards.{BoardCallerView, BoardPass, board_seen}
-use Rattle.live_service.specs.Fronts.{HasAnswered, HasServedLinks, IsFront, IsLinkRun, LinkRun}
+use Rattle.live_service.specs.Fronts.{HasAnswered, HasAnsweredNet, HasServedLinks, IsFront}
+use Rattle.live_service.specs.Lanes.{AreRuns, HasServedLanes, IsLaneRun, LaneRun, LaneState}
+use Rattle.live_service.specs.Links.{IsLinkRun, LinkRun}
 use Rattle.live_service.specs.Live.{AreAllOf, IsShared}
-use Rattle.live_service.specs.Views.{FrontTold, ServedView, TeamView}
+use Rattle.live_service.specs.Views.{FrontTold, LaneView, ServedView, TeamView}
 use Rattle.live_service.specs.declared.front.FrontEnd.{FrontEnd}
 use Rattle.live_service.specs.declared.front.FrontEnd.TheVariants as front
 use Rattle.live_service.specs.Workers.{IsMover, IsPlanner, Mover, Pass, Planner, shares_of}
@@ -129,11 +132,20 @@ module _ (bad : Event → Bool) where
   both_at [] b h k = k
   both_at (x ∷ a) b h k = (h.0, both_at a b h.1 k)
 
-  -- a pass that began without an entry
+  with_places : (h : List Event) (mine : List (ℕ × Event)) → AreFreeAt bad mine → AreFree bad (entries_of h mine)
+  with_places h [] a = tt
+  with_places h (p ∷ mine) a = (a.0, with_places h mine a.1)
+
+  -- a pass that grew
+  grown_free : (v w : Pass) (made : List Entry) → AreFreeAt bad v.mine → entries_of w.seen w.mine ≡ entries_of v.seen v.mine ++ made → AreFree bad made → AreFreeAt bad w.mine
+  grown_free v w made before own free = at_places w.seen w.mine (subst (AreFree bad) (sym own) (both_free bad (entries_of v.seen v.mine) made (with_places v.seen v.mine before) free))
+
+  none_free : (v : Pass) → v.mine ≡ [] → AreFreeAt bad v.mine
+  none_free v fresh = subst (AreFreeAt bad) (sym fresh) tt
+
+  -- one that began without an entry
   own_free : (v w : Pass) (made : List Entry) → v.mine ≡ [] → entries_of w.seen w.mine ≡ entries_of v.seen v.mine ++ made → AreFree bad made → AreFreeAt bad w.mine
-  own_free v w made fresh own free =
-      let all : entries_of w.seen w.mine ≡ made = own ∙ ap (λ (m : List (ℕ × Event)). entries_of v.seen m ++ made) fresh in
-      at_places w.seen w.mine (subst (AreFree bad) (sym all) free)
+  own_free v w made fresh own free = grown_free v w made (none_free v fresh) own free
 
 module _ (bad : Event → Bool) (spared : IsSpared bad) (file : Meaning) where
   pub mover_free : (m : Mover) → IsMover file m → AreFreeAt bad m.back.mine
@@ -151,12 +163,16 @@ seen_some : (b : Bool) (p : BoardPass) → is_some (board_seen b p) ≡ b
 seen_some true p = refl
 seen_some false p = refl
 
-module _ (file : Meaning) (bad : Event → Bool) (spared : IsSpared bad) (reviews : Bool) (pieces_free : (r : Rules) (s : List Event) (ps : List Piece) → AllByRecursion (IsPiece reviews r s) ps → AreFree bad (in_order (λ p. p.made) ps)) where
-  served_free : (v w : Pass) (x y : BoardPass) (k l : Copies) (left old new : Option (List ℕ)) (end : LinkEnd) → v.mine ≡ [] → HasServed (known_by_pass file v) (known_by_pass file w) (board_seen reviews x) (board_seen reviews y) k l left old new end → AreFreeAt bad w.mine
-  served_free v w x y k l left old new end fresh h =
+-- what a link offers that reviews or doesn't
+abbrev offered : Bool → Bool → Offers
+offered o reviews = record { reviews = reviews; shutdown = o }
+
+module _ (file : Meaning) (bad : Event → Bool) (spared : IsSpared bad) (reviews : Bool) (pieces_free : (o : Bool) (r : Rules) (s : List Event) (ps : List Piece) → AllByRecursion (IsPiece (offered o reviews) r s) ps → AreFree bad (in_order (λ p. p.made) ps)) where
+  served_free : (o : Bool) (v w : Pass) (x y : BoardPass) (k l : Copies) (left old new : Option (List ℕ)) (end : LinkEnd) → AreFreeAt bad v.mine → HasServed o (known_by_pass file v) (known_by_pass file w) (board_seen reviews x) (board_seen reviews y) k l left old new end → AreFreeAt bad w.mine
+  served_free o v w x y k l left old new end before h =
       let r = turn_rules file in
-      let are : AllByRecursion (IsPiece reviews r w.seen) h.made.is.pieces = subst (λ (b : Bool). AllByRecursion (IsPiece b r w.seen) h.made.is.pieces) (seen_some reviews x) h.made.is.are.are in
-      own_free bad v w h.made.made fresh h.made.own (subst (AreFree bad) (sym h.made.is.are.made_is) (pieces_free r w.seen h.made.is.pieces are))
+      let are : AllByRecursion (IsPiece (offered o reviews) r w.seen) h.made.is.pieces = subst (λ (b : Bool). AllByRecursion (IsPiece (offered o b) r w.seen) h.made.is.pieces) (seen_some reviews x) h.made.is.are.are in
+      grown_free bad v w h.made.made before h.made.own (subst (AreFree bad) (sym h.made.is.are.made_is) (pieces_free o r w.seen h.made.is.pieces are))
 
   pub movers_free : (ms : List Mover) → AllByRecursion (IsMover file) ms → AreFreeAt bad (shares_of (map (λ m. m.back) ms))
   movers_free [] h = tt
@@ -168,20 +184,41 @@ module _ (file : Meaning) (bad : Event → Bool) (spared : IsSpared bad) (review
 
   links_free : (rs : List LinkRun) → AllByRecursion (IsLinkRun file reviews) rs → AreFreeAt bad (shares_of (map (λ r. r.back) rs))
   links_free [] h = tt
-  links_free (r ∷ rs) h = both_at bad (shares_of (map (λ x. x.back) rs)) r.back.mine (links_free rs h.1) (served_free r.given r.back r.board_given r.board_back r.old r.new r.before.left r.before.written r.after.written r.end h.0.fresh h.0.answered)
+  links_free (r ∷ rs) h = both_at bad (shares_of (map (λ x. x.back) rs)) r.back.mine (links_free rs h.1) (served_free false r.given r.back r.board_given r.board_back r.old r.new r.before.left r.before.written r.after.written r.end (none_free bad r.given h.0.fresh) h.0.run.answered)
 
   links_of_free : (told now : Option (List AcceptedLink)) (old new : List Copies) (links : List ServedView) (v w : Pass) (x y : BoardPass) → v.mine ≡ [] → HasServedLinks file reviews told now old new links v w x y → AreFreeAt bad w.mine
   links_of_free told now old new links v w x y fresh h = subst (AreFreeAt bad) (sym (h.shares.mine ∙ ap (λ (m : List (ℕ × Event)). m ++ shares_of (map (λ (r : LinkRun). r.back) h.runs)) fresh)) (links_free h.runs h.are)
 
+  -- the links of a thread
+  runs_free : (a : LaneState) (rs : List LinkRun) (b : LaneState) → AreFreeAt bad a.pass.mine → AreRuns file reviews a rs b → AreFreeAt bad b.pass.mine
+  runs_free a [] b before h = subst (λ (x : LaneState). AreFreeAt bad x.pass.mine) (sym h) before
+  runs_free a (r ∷ rs) b before h =
+      let earlier = runs_free a rs (record { pass = r.given; board = r.board_given; copies = r.old }) before h.2 in
+      let now = served_free true r.given r.back r.board_given r.board_back r.old r.new r.before.left r.before.written r.after.written r.end earlier h.0.answered in
+      subst (λ (x : LaneState). AreFreeAt bad x.pass.mine) (sym h.1) now
+
+  lanes_free : (rs : List LaneRun) → AllByRecursion (IsLaneRun file reviews) rs → AreFreeAt bad (shares_of (map (λ r. r.back.pass) rs))
+  lanes_free [] h = tt
+  lanes_free (r ∷ rs) h = both_at bad (shares_of (map (λ x. x.back.pass) rs)) r.back.pass.mine (lanes_free rs h.1) (runs_free r.given h.0.served.links r.back (none_free bad r.given.pass h.0.fresh) h.0.served.runs)
+
+  lanes_of_free : (old new : List Copies) (lanes : List LaneView) (v w : Pass) (x y : BoardPass) → v.mine ≡ [] → HasServedLanes file reviews old new lanes v w x y → AreFreeAt bad w.mine
+  lanes_of_free old new lanes v w x y fresh h = subst (AreFreeAt bad) (sym (h.shares.mine ∙ ap (λ (m : List (ℕ × Event)). m ++ shares_of (map (λ (r : LaneRun). r.back.pass) h.runs)) fresh)) (lanes_free h.runs h.are)
+
+  net_free : (forever : Bool) (asked : ServingAsked) (d e : BoardCallerView) (f g : FrontTold) (end : FrontEnd) (old new : List Copies) (v w : Pass) → d.reviews ≡ reviews → v.mine ≡ [] → HasAnsweredNet forever file asked d e f g end old new v w → AreFreeAt bad w.mine
+  net_free false asked d e f g front.Accepted old new v w same fresh h = links_of_free f.net.accepted g.net.accepted old new g.served v w d.pass e.pass fresh (subst (λ (b : Bool). HasServedLinks file b f.net.accepted g.net.accepted old new g.served v w d.pass e.pass) same h.0.served)
+  net_free false asked d e f g front.ListenerFault old new v w same fresh h = links_of_free f.net.accepted g.net.accepted old new g.served v w d.pass e.pass fresh (subst (λ (b : Bool). HasServedLinks file b f.net.accepted g.net.accepted old new g.served v w d.pass e.pass) same h.0.served)
+  net_free false asked d e f g front.ShutDown old new v w same fresh h = absurd h
+  net_free false asked d e f g (front.Console end) old new v w same fresh h = absurd h
+  net_free true asked d e f g end old new v w same fresh h = lanes_of_free old new g.lanes v w d.pass e.pass fresh (subst (λ (b : Bool). HasServedLanes file b old new g.lanes v w d.pass e.pass) same h.0.served)
+
   pub answered_free : (asked : Option ServingAsked) (d e : BoardCallerView) (f g : FrontTold) (end : FrontEnd) (old new : List Copies) (v w : Pass) → d.reviews ≡ reviews → v.mine ≡ [] → HasAnswered file asked d e f g end old new v w → AreFreeAt bad w.mine
   answered_free None d e f g (front.Console end) old new v w same fresh h =
-      served_free v w d.pass e.pass f.copier g.copier f.console.left f.console.written g.console.written end fresh
-      (subst (λ (b : Bool). HasServed (known_by_pass file v) (known_by_pass file w) (board_seen b d.pass) (board_seen b e.pass) f.copier g.copier f.console.left f.console.written g.console.written end) same h.0.answered)
-  answered_free (Some n) d e f g front.Accepted old new v w same fresh h = links_of_free f.net.accepted g.net.accepted old new g.served v w d.pass e.pass fresh (subst (λ (b : Bool). HasServedLinks file b f.net.accepted g.net.accepted old new g.served v w d.pass e.pass) same h.0.served)
-  answered_free (Some n) d e f g front.ListenerFault old new v w same fresh h = links_of_free f.net.accepted g.net.accepted old new g.served v w d.pass e.pass fresh (subst (λ (b : Bool). HasServedLinks file b f.net.accepted g.net.accepted old new g.served v w d.pass e.pass) same h.0.served)
+      served_free false v w d.pass e.pass f.copier g.copier f.console.left f.console.written g.console.written end (none_free bad v fresh)
+      (subst (λ (b : Bool). HasServed false (known_by_pass file v) (known_by_pass file w) (board_seen b d.pass) (board_seen b e.pass) f.copier g.copier f.console.left f.console.written g.console.written end) same h.0.answered)
   answered_free None d e f g front.Accepted old new v w same fresh h = absurd h
+  answered_free None d e f g front.ShutDown old new v w same fresh h = absurd h
   answered_free None d e f g front.ListenerFault old new v w same fresh h = absurd h
-  answered_free (Some n) d e f g (front.Console end) old new v w same fresh h = absurd h
+  answered_free (Some asked) d e f g end old new v w same fresh h = net_free asked.forever asked d e f g end old new v w same fresh h
 
 -- ---- a journal whose places are these
 
@@ -235,7 +272,7 @@ drained_none bad spared b c k l end none h =
 -- so a front whose Close wasn't taken is none: it asked the only one
 module _ {A : Type 0} (faults : A → ℕ) (asked : Option ServingAsked) (d e : BoardCallerView) (f g : FrontTold) (end : FrontEnd) (b c : BookView A) (s t : TeamView) (movers planners : ℕ) (h : IsShared faults (λ xs ys. HasFronted (HasAnswered b.file asked d e f g end xs ys)) b c s t movers planners) where
   -- no entry is of a kind that neither the requests nor the workers ask, nor the front itself
-  none_shared : (bad : Event → Bool) (spared : IsSpared bad) (pieces_free : (r : Rules) (k : List Event) (ps : List Piece) → AllByRecursion (IsPiece d.reviews r k) ps → AreFree bad (in_order (λ p. p.made) ps))
+  none_shared : (bad : Event → Bool) (spared : IsSpared bad) (pieces_free : (o : Bool) (r : Rules) (k : List Event) (ps : List Piece) → AllByRecursion (IsPiece (offered o d.reviews) r k) ps → AreFree bad (in_order (λ p. p.made) ps))
       → (AreFreeAt bad h.run.run.did.served.mine → AreFreeAt bad h.run.run.over.mine) → list_any bad c.journal ≡ false
   none_shared bad spared pieces_free close =
       let r = h.run.run in
@@ -248,7 +285,7 @@ module _ {A : Type 0} (faults : A → ℕ) (asked : Option ServingAsked) (d e : 
   front_closes : IsClosed h.run.run.did.served h.run.run.over → HasClosed h.run.run.did.served h.run.run.over
   front_closes (inl closed) = closed
   front_closes (inr none) = absurd (
-      let one = none_shared is_close close_spared (λ r k ps. pieces_open r k d.reviews ps) (λ free. subst (AreFreeAt is_close) (sym none.mine) free) in
+      let one = none_shared is_close close_spared (λ o r k ps. pieces_open r k (offered o d.reviews) ps) (λ free. subst (AreFreeAt is_close) (sym none.mine) free) in
       let other = is_closed faults (HasAnswered b.file asked d e f g end) b c s t movers planners h in
       (let x : false ≡ true = sym one ∙ other in cc))
 
@@ -258,7 +295,7 @@ module _ {A : Type 0} (faults : A → ℕ) (asked : Option ServingAsked) (d e : 
   no_fix_behind (inr none) free = subst (AreFreeAt is_heal) (sym none.mine) free
 
   pub unhealed : d.reviews ≡ true → list_any is_heal c.journal ≡ false
-  unhealed reviewed = none_shared is_heal heal_spared (λ r k ps are. reviewed_no_fix r k ps (subst (λ (x : Bool). AllByRecursion (IsPiece x r k) ps) reviewed are)) (no_fix_behind h.run.run.did.closed)
+  unhealed reviewed = none_shared is_heal heal_spared (λ o r k ps are. reviewed_no_fix r k o ps (subst (λ (x : Bool). AllByRecursion (IsPiece (offered o x) r k) ps) reviewed are)) (no_fix_behind h.run.run.did.closed)
 
   pub closes_once : IsShared faults (λ xs ys. IsFront (HasAnswered b.file asked d e f g end xs ys)) b c s t movers planners
   closes_once = record {

@@ -4,14 +4,18 @@ use Rattle.live_service.specs.Views.{ServiceView, TeamView}
 use Rattle.live_service.specs.declared.links.Serving.{Serving}
 use Rattle.live_service.specs.declared.live.Crew.{Crew}
 
--- links that are asked for: so many, accepted at this address
+-- links that are asked for, accepted at this address: so many; or any number, so many at once, until a client asks the service to shut down
 pub record ServingAsked : Type 0 where
   pub address : List ℕ
   pub links : ℕ
+  pub forever : Bool
+
+abbrev pub asked_of : Serving → ServingAsked
+asked_of s = record { address = string_bytes s.address; links = s.links; forever = s.forever }
 
 -- or none, for the console
-abbrev pub serving_told : Option Serving → Option ServingAsked
-serving_told serving = option_map (λ s. record { address = string_bytes s.address; links = s.links }) serving
+abbrev pub serving_view : Option Serving → Option ServingAsked
+serving_view serving = option_map asked_of serving
 
 -- who works over a book: so many movers and planners, and the links that are served. Without links the requests are those of the console.
 -- They may be reviewed
@@ -22,8 +26,8 @@ pub record CrewAsked : Type 0 where
   pub reviews : Bool
 
 -- the same as a value of the program
-abbrev pub crew_told : Crew → CrewAsked
-crew_told crew = record { movers = crew.movers; planners = crew.planners; serving = serving_told crew.serving; reviews = crew.reviews }
+abbrev pub crew_view : Crew → CrewAsked
+crew_view crew = record { movers = crew.movers; planners = crew.planners; serving = serving_view crew.serving; reviews = crew.reviews }
 
 -- as many copiers and places are needed
 abbrev pub links_of : Option Serving → ℕ
@@ -38,6 +42,8 @@ pub record HasSpace (s : ServiceView) (had on_board others links : ℕ) : Type 0
   pub board_parts : links < on_board
   pub none : s.served ≡ []
   pub places : links ≤ s.places
+  pub no_lane : s.lanes ≡ []
+  pub lane_room : links ≤ s.lane_room
 
 -- the same for so many links, movers and planners, and a place for each loop's end
 pub record IsReady (t : TeamView) (had on_board movers planners links : ℕ) : Type 0 where
@@ -47,6 +53,8 @@ pub record IsReady (t : TeamView) (had on_board movers planners links : ℕ) : T
   pub board_parts : links < on_board
   pub none : t.front.service.served ≡ []
   pub places : links ≤ t.front.service.places
+  pub no_lane : t.front.service.lanes ≡ []
+  pub lane_room : links ≤ t.front.service.lane_room
   pub no_mover : t.movers ≡ []
   pub mover_room : movers ≤ t.mover_room
   pub no_planner : t.planners ≡ []
@@ -57,3 +65,4 @@ pub record IsWhole (s t : ServiceView) : Type 0 where
   pub copiers : length t.copiers ≡ length s.copiers
   pub room : s.room ≤ t.room
   pub places : s.places ≤ t.places
+  pub lane_room : s.lane_room ≤ t.lane_room

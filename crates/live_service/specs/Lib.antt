@@ -6,6 +6,8 @@ pub mod Fronts
 pub mod Closing
 pub mod Asked
 pub mod Runs
+pub mod Lanes
+pub mod Links
 pub mod Live
 pub mod Shared
 pub mod Heals

@@ -1,5 +1,5 @@
 -- What is told of links, of a listener, and of those who take part in a live service.
-use Rattle.std.specs.Prelude.{ℕ, List, Option}
+use Rattle.std.specs.Prelude.{ℕ, Bool, List, Option}
 use Rattle.mover_rounds.specs.Made.{Copies}
 use Rattle.mover_workers.specs.declared.loops.LoopEnd.{LoopEnd}
 use Rattle.net_links.specs.Links.{AcceptedLink}
@@ -29,13 +29,26 @@ pub record NetView : Type 0 where
 abbrev pub net_of : {N : Type 0} → (N → ℕ) → (N → Option (List AcceptedLink)) → (N → Option (List (List ℕ))) → N → NetView
 net_of faults accepted heard listener = record { faults = faults listener; accepted = accepted listener; heard = heard listener }
 
--- a listener with the copiers of its links and the links that were served, and how many of both there is room for
+-- a thread that served links of a handle of the listener: what the handle tells, that its calls failed until it gave up, and that out of
+-- memory ended one of the links
+pub record LaneView : Type 0 where
+  pub net : NetView
+  pub failed : Bool
+  pub wants : Bool
+
+abbrev pub lane_of : {N : Type 0} → (N → NetView) → N → Bool → Bool → LaneView
+lane_of net listener failed wants = record { net = net listener; failed = failed; wants = wants }
+
+-- a listener with the copiers of its links, the links that were served, or the threads that served links, and how many of each there is
+-- room for
 pub record ServiceView : Type 0 where
   pub net : NetView
   pub copiers : List Copies
   pub served : List ServedView
+  pub lanes : List LaneView
   pub room : ℕ
   pub places : ℕ
+  pub lane_room : ℕ
 
 -- what answers requests: a console, with the copier of its pumps and of the drain, and the service of a listener
 pub record FrontView : Type 0 where
@@ -49,9 +62,10 @@ pub record FrontTold : Type 0 where
   pub console : LinkView
   pub net : NetView
   pub served : List ServedView
+  pub lanes : List LaneView
 
 abbrev pub told_of : FrontView → FrontTold
-told_of f = record { copier = f.copier; console = f.console; net = f.service.net; served = f.service.served }
+told_of f = record { copier = f.copier; console = f.console; net = f.service.net; served = f.service.served; lanes = f.service.lanes }
 
 -- a front, and how the loops of movers and planners ended, with the room for as many
 pub record TeamView : Type 0 where

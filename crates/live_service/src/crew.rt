@@ -1,5 +1,5 @@
 // The workers that run beside a front.
-ghost use Rattle.live_service.specs.Asked.{IsReady, links_of, serving_told};
+ghost use Rattle.live_service.specs.Asked.{IsReady, links_of, serving_view};
 ghost use Rattle.live_service.specs.Runs.{HasRunMovers, HasRunWorkers};
 ghost use Rattle.mover_workers.specs.Callers.{IsSince, known_by_caller};
 ghost use Rattle.mover_workers.specs.Loops.{CallsNoAdmin, HasPlanned};
@@ -23,7 +23,7 @@ fn without_workers<'a, P: Parties, R: Threads + Wait + Sync>(
 ) -> (Callers<'a, R, P::Gate>, Team<P>, FrontEnd)
     requires ready { IsReady team callers.book.pass.parts callers.board.pass.parts 0 0
         (links_of serving) }
-    ensures run { HasRunMovers (serving_told serving) callers.entry.book result.0.book
+    ensures run { HasRunMovers (serving_view serving) callers.entry.book result.0.book
         callers.entry.board result.0.board team result.1 result.2 0 }
 {
     let Team {
@@ -52,7 +52,7 @@ fn with_movers<'a, P: Parties, R: Threads + Wait + Sync>(
 ) -> (Callers<'a, R, P::Gate>, Team<P>, FrontEnd)
     requires ready { IsReady team callers.book.pass.parts callers.board.pass.parts movers 0
         (links_of serving) }
-    ensures run { HasRunMovers (serving_told serving) callers.entry.book result.0.book
+    ensures run { HasRunMovers (serving_view serving) callers.entry.book result.0.book
         callers.entry.board result.0.board team result.1 result.2 movers }
 {
     if movers == 0 {
@@ -70,7 +70,7 @@ fn with_movers<'a, P: Parties, R: Threads + Wait + Sync>(
         move || -> (Callers<R, P::Gate>, Team<P>, FrontEnd)
             requires { IsReady team callers.book.pass.parts callers.board.pass.parts fewer 0
                 (links_of serving) }
-            ensures { HasRunMovers (serving_told serving) callers.entry.book result.0.book
+            ensures { HasRunMovers (serving_view serving) callers.entry.book result.0.book
                 callers.entry.board result.0.board team result.1 result.2 fewer }
         { with_movers(rt, alloc, callers, team, fewer, serving) },
     );
@@ -93,7 +93,7 @@ pub fn with_workers<'a, P: Parties, R: Threads + Wait + Sync>(
 ) -> (Callers<'a, R, P::Gate>, Team<P>, FrontEnd)
     requires ready { IsReady team callers.book.pass.parts callers.board.pass.parts movers planners
         (links_of serving) }
-    ensures run { HasRunWorkers (serving_told serving) callers.entry.book result.0.book
+    ensures run { HasRunWorkers (serving_view serving) callers.entry.book result.0.book
         callers.entry.board result.0.board team result.1 result.2 movers planners }
 {
     if planners == 0 {
@@ -114,7 +114,7 @@ pub fn with_workers<'a, P: Parties, R: Threads + Wait + Sync>(
         move || -> (Callers<R, P::Gate>, Team<P>, FrontEnd)
             requires { IsReady team callers.book.pass.parts callers.board.pass.parts movers fewer
                 (links_of serving) }
-            ensures { HasRunWorkers (serving_told serving) callers.entry.book result.0.book
+            ensures { HasRunWorkers (serving_view serving) callers.entry.book result.0.book
                 callers.entry.board result.0.board team result.1 result.2 movers fewer }
         { with_workers(rt, alloc, callers, team, movers, fewer, serving) },
     );

@@ -5,6 +5,7 @@
 mod boards;
 mod crew;
 mod front;
+mod lanes;
 mod laws;
 mod link;
 mod links;
@@ -14,9 +15,10 @@ mod service;
 
 pub use boards::{BoardCaller, Callers};
 pub use front::FrontEnd;
+pub use lanes::out_of_memory;
 pub use laws::workers_heal_nothing;
 pub use link::{serve_link, serve_reviewed};
 pub use links::Serving;
 pub use live::{Crew, Live, Unshared, run_live_service};
 pub use parties::{Front, Of, Parties, Team};
-pub use service::{Served, Service};
+pub use service::{Lane, Served, Service};

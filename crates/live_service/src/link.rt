@@ -1,5 +1,5 @@
 // The requests of a link over a shared book.
-ghost use Rattle.std.specs.Prelude.{◌≡◌, ◌≤◌, true, None};
+ghost use Rattle.std.specs.Prelude.{◌≡◌, ◌≤◌, true, false, None};
 ghost use Rattle.cc_base.specs.Outside.{HasRisen};
 ghost use Rattle.mover_rounds.specs.Made.{copier_of};
 ghost use Rattle.mover_workers.specs.Callers.{Belongs, HasGrown, known_by_pass};
@@ -11,7 +11,7 @@ use cc_base::Link;
 use cluster_gate::{Admin, Copier};
 use control_core::Book;
 use mover_workers::Caller;
-use rest_session::{LinkEnd, serve};
+use rest_session::{LinkEnd, NoShutdown, serve};
 use review_board::{Board, NoBoard};
 use std::alloc::Global;
 use std::sync::Wait;
@@ -34,7 +34,7 @@ pub fn serve_link<A: Admin, K: Copier, L: Link, R: Threads + Wait + Sync>(
     ensures own { Belongs turn.now result.0 }
     ensures grown { HasGrown pass result.0 }
     // The requests were answered, each by the reply to its own entries.
-    ensures served { HasServed (known_by_pass turn.now.start.file pass)
+    ensures served { HasServed false (known_by_pass turn.now.start.file pass)
         (known_by_pass turn.now.start.file result.0) None None
         (copier_of K.copies K.faults copier.old) (copier_of K.copies K.faults copier.new)
         (L.left link.old) (L.written link.old) (L.written link.new) result.1 }
@@ -47,7 +47,15 @@ pub fn serve_link<A: Admin, K: Copier, L: Link, R: Threads + Wait + Sync>(
         → HasRisen (L.Sink.faults link.old) (L.Sink.faults link.new) }
 {
     let mut caller = Caller::new(rt, turn, pass);
-    let end = serve(rt, alloc, &mut caller, &mut NoBoard, copier, link);
+    let end = serve(
+        rt,
+        alloc,
+        &mut caller,
+        &mut NoBoard,
+        copier,
+        &NoShutdown,
+        link,
+    );
     (caller.into_pass(), end)
 }
 
@@ -72,7 +80,7 @@ pub fn serve_reviewed<A: Admin, K: Copier, L: Link, R: Threads + Wait + Sync>(
     ensures board_own { BelongsToBoard board.now result.1 }
     ensures board_grown { HasGrown board_pass result.1 }
     // The requests were answered, each by the reply to its own entries in the book and on the board.
-    ensures served { HasServed (known_by_pass turn.now.start.file pass)
+    ensures served { HasServed false (known_by_pass turn.now.start.file pass)
         (known_by_pass turn.now.start.file result.0) (board_seen true board_pass)
         (board_seen true result.1) (copier_of K.copies K.faults copier.old)
         (copier_of K.copies K.faults copier.new) (L.left link.old) (L.written link.old)
@@ -87,6 +95,14 @@ pub fn serve_reviewed<A: Admin, K: Copier, L: Link, R: Threads + Wait + Sync>(
 {
     let mut caller = Caller::new(rt, turn, pass);
     let mut board = BoardCaller::new(rt, board, board_pass, true);
-    let end = serve(rt, alloc, &mut caller, &mut board, copier, link);
+    let end = serve(
+        rt,
+        alloc,
+        &mut caller,
+        &mut board,
+        copier,
+        &NoShutdown,
+        link,
+    );
     (caller.into_pass(), board.into_pass(), end)
 }

@@ -6,7 +6,8 @@ ghost use Rattle.mover_rounds.specs.Made.{copier_of};
 ghost use Rattle.mover_workers.specs.Callers.{IsSince, known_by_caller};
 ghost use Rattle.rest_session.specs.Answered.{HasServed};
 ghost use Rattle.live_service.specs.Boards.{IsBoardCallerSince, board_seen};
-ghost use Rattle.live_service.specs.Fronts.{HasAccepted, HasLinkCause, HasTried, IsUnheard};
+ghost use Rattle.live_service.specs.Fronts.{HasAccepted, HasTried, IsUnheard};
+ghost use Rattle.live_service.specs.Links.{HasLinkCause};
 ghost use Rattle.live_service.specs.Views.{link_of};
 
 use crate::boards::{BoardCaller, Callers};
@@ -15,31 +16,36 @@ use cc_base::Failed;
 use cluster_gate::{Admin, Copier};
 use mover_workers::Caller;
 use net_links::{Connection, Listener};
-use rest_session::{LinkEnd, serve};
+use rest_session::{LinkEnd, NoShutdown, Shutdown, serve};
 use std::alloc::Global;
 use std::sync::Wait;
 use std::thread::{Threads, join};
 
-/// Which links are accepted: so many, at an address.
+/// Which links are accepted, at an address.
 #[derive(Drop)]
 pub struct Serving {
     /// `HOST:PORT`, as the listener reads it.
     pub address: String,
+    /// How many.
     pub links: u32,
+    /// Any number, and so many at once, until a client asks the service to shut down.
+    pub forever: bool,
 }
 
-// Answers the requests of a link until it ends, and closes it.
-fn serve_one<'a, A: Admin, K: Copier, C: Connection, R: Threads + Wait + Sync>(
+/// Answers the requests of a link until it ends, and closes it.
+pub fn serve_one<'a, A: Admin, K: Copier, D: Shutdown, C: Connection, R: Threads + Wait + Sync>(
     rt: &R,
     alloc: Global,
     caller: &mut Caller<'a, R, A>,
     board: &mut BoardCaller<'a, R>,
     copier: &mut K,
+    shutdown: &D,
     link: &mut C,
 ) -> LinkEnd
     ensures since { IsSince caller.old caller.new }
     ensures board_since { IsBoardCallerSince board.old board.new }
-    ensures served { HasServed (known_by_caller caller.old) (known_by_caller caller.new)
+    ensures served { HasServed (D.offered shutdown.now) (known_by_caller caller.old)
+        (known_by_caller caller.new)
         (board_seen board.old.reviews board.old.pass) (board_seen board.new.reviews board.new.pass)
         (copier_of K.copies K.faults copier.old) (copier_of K.copies K.faults copier.new)
         (C.left link.old) (C.written link.old) (C.written link.new) result }
@@ -47,7 +53,7 @@ fn serve_one<'a, A: Admin, K: Copier, C: Connection, R: Threads + Wait + Sync>(
         (link_of C.left C.written C.Source.faults C.Sink.faults link.old)
         (link_of C.left C.written C.Source.faults C.Sink.faults link.new) result }
 {
-    let end = serve(rt, alloc, caller, board, copier, link);
+    let end = serve(rt, alloc, caller, board, copier, shutdown, link);
     link.close();
     end
 }
@@ -94,7 +100,15 @@ where
                 × HasTried service result.1 result.2 }
         { accept_links(rt, alloc, callers, service, fewer) },
         move || {
-            let end = serve_one(rt, alloc, &mut caller, &mut board, &mut copier, &mut link);
+            let end = serve_one(
+                rt,
+                alloc,
+                &mut caller,
+                &mut board,
+                &mut copier,
+                &NoShutdown,
+                &mut link,
+            );
             (caller, board, copier, Served { link, end })
         },
     );

@@ -6,7 +6,7 @@ ghost use Rattle.core_laws.specs.Events.{AreListsShown};
 ghost use Rattle.core_terms.specs.History.{AreLegal};
 ghost use Rattle.core_terms.specs.Sound.{IsSound};
 ghost use Rattle.exec_terms.specs.Machine.{lists_now};
-ghost use Rattle.live_service.specs.Asked.{IsReady, IsWhole, crew_told, links_of};
+ghost use Rattle.live_service.specs.Asked.{IsReady, IsWhole, crew_view, links_of};
 ghost use Rattle.live_service.specs.Live.{IsLive};
 ghost use Rattle.live_service.specs.Shared.{WasShared};
 
@@ -66,7 +66,7 @@ fn share<P: Parties, R: Threads + Wait + Sync>(
     requires ready { IsReady team 1048576 1048576 crew.movers crew.planners
         (links_of crew.serving) }
     // What was done, and the copiers come back.
-    ensures shared { IfOk result (λ r. WasShared P.Gate.faults (crew_told crew) r.board book r.book
+    ensures shared { IfOk result (λ r. WasShared P.Gate.faults (crew_view crew) r.board book r.book
         team r.team r.end) }
     ensures back { IfOk result (λ r. IsWhole team.front.service r.team.front.service) }
     // Out of memory, all is handed back.
@@ -143,7 +143,7 @@ pub fn run_live_service<P: Parties, R: Threads + Wait + Sync>(
     requires ready { IsReady team 1048576 1048576 crew.movers crew.planners
         (links_of crew.serving) }
     // What was done, by whom, and with which copies and replies.
-    ensures live { IfOk result (λ r. IsLive P.Gate.faults (crew_told crew) r.board book r.book
+    ensures live { IfOk result (λ r. IsLive P.Gate.faults (crew_view crew) r.board book r.book
         team r.team r.end r.drain) }
     // The journal is a legal history of the book's file, whose lists the admin has.
     ensures file { IfOk result (λ r. r.book.file ≡ book.file) }
@@ -182,7 +182,7 @@ pub fn run_live_service<P: Parties, R: Threads + Wait + Sync>(
         service,
     } = front;
     let drain = finish(rt, alloc, &mut book, &mut copier);
-    let _legal = book.journal();
+    let _legal = book.entries();
     let _few = book.failures();
     let front = Front {
         copier,

@@ -2,9 +2,9 @@
 ghost use Rattle.std.specs.Prelude.{◌≡◌, ◌∷◌, ◌<◌, ◌≤◌, IfOk, OnErr, OnOk, length};
 ghost use Rattle.cc_base.specs.Outside.{HasCause, with_name};
 ghost use Rattle.mover_rounds.specs.Made.{HasRisenBy, copier_of};
-ghost use Rattle.live_service.specs.Fronts.{tries};
-ghost use Rattle.live_service.specs.Views.{link_of};
-ghost use Rattle.net_links.specs.Links.{IsFresh, with_link};
+ghost use Rattle.live_service.specs.Links.{tries};
+ghost use Rattle.live_service.specs.Views.{lane_of, link_of, net_of};
+ghost use Rattle.net_links.specs.Links.{IsFresh, IsUnused, with_link};
 
 use cc_base::Failed;
 use cluster_gate::Copier;
@@ -22,8 +22,19 @@ pub struct Served<C> {
     pub end: LinkEnd,
 }
 
-/// A listener with the copiers of its links, one each, and the links that were served, in the order
-/// in which they were accepted.
+/// A thread that served links, one after another.
+#[derive(Drop)]
+pub struct Lane<N> {
+    /// Its handle of the listener.
+    pub listener: N,
+    /// Each of 16 calls in a row that accept failed.
+    pub failed: bool,
+    /// Out of memory ended one of its links.
+    pub wants: bool,
+}
+
+/// A listener with the copiers of its links, one each, or one for each thread that serves links; the
+/// links that were served, in the order in which they were accepted; and those threads.
 #[derive(Drop)]
 pub struct Service<K: Copier, N: Listener>
 where
@@ -32,10 +43,15 @@ where
     pub listener: N,
     pub copiers: Vec<K>,
     pub served: Vec<Served<N::Conn>>,
+    pub lanes: Vec<Lane<N>>,
 }
 
-// The next link of a listener, which is asked for it up to so many times.
-fn accept_from<N: Listener>(listener: &mut N) -> Result<N::Conn, Failed>
+/// The next link of a listener, which is asked for it up to 16 times.
+///
+/// # Errors
+///
+/// `Failed` where each of the calls failed. No link is accepted then.
+pub fn accept_from<N: Listener>(listener: &mut N) -> Result<N::Conn, Failed>
     ensures later { N.faults listener.old ≤ N.faults listener.new }
     ensures given_up { OnErr result
         (HasRisenBy tries (N.faults listener.old) (N.faults listener.new)) }
@@ -67,7 +83,7 @@ where
 {
     ghost use Rattle.std.specs.Prelude.{map, vec_capacity};
     ghost use Rattle.mover_rounds.specs.Made.{copier_of};
-    ghost use Rattle.live_service.specs.Views.{ServiceView, link_of, net_of};
+    ghost use Rattle.live_service.specs.Views.{ServiceView, lane_of, link_of, net_of};
 
     ghost Value = { ServiceView };
 
@@ -78,12 +94,15 @@ where
         link = link_of N.Conn.left N.Conn.written N.Conn.Source.faults N.Conn.Sink.faults c.link;
         end = c.end;
       }) s.served.items;
+      lanes = map (λ l. lane_of (net_of N.faults N.accepted N.heard) l.listener l.failed l.wants)
+          s.lanes.items;
       room = vec_capacity s.copiers;
       places = vec_capacity s.served;
+      lane_room = vec_capacity s.lanes;
     } };
 }
 
-impl<K: Copier + Drop, N: Listener> Service<K, N>
+impl<K: Copier + Drop, N: Listener + Drop> Service<K, N>
 where
     N::Conn: Drop,
 {
@@ -129,6 +148,21 @@ where
         accept_from(&mut self.listener)
     }
 
+    /// A handle of the listener for a thread of its own.
+    ///
+    /// # Errors
+    ///
+    /// `Failed` where the call fails.
+    pub fn split(&mut self) -> Result<N, Failed>
+        ensures cause { HasCause self.old.net.faults self.new.net.faults result }
+        ensures heard { self.new.net.heard ≡ self.old.net.heard }
+        ensures accepted { self.new.net.accepted ≡ self.old.net.accepted }
+        ensures unused { IfOk result (λ l. IsUnused (N.faults l) (N.accepted l)) }
+        ensures rest { self.new ≡ record self.old { net = self.new.net } }
+    {
+        self.listener.split()
+    }
+
     /// Takes the first copier away.
     pub fn take_copier(&mut self) -> K
         requires some { 0 < length self.old.copiers }
@@ -169,6 +203,22 @@ where
         ensures places { self.old.places ≤ self.new.places }
     {
         let Ok(()) = self.served.insert(0, served) else {
+            unreachable!()
+        };
+    }
+
+    /// Puts a thread that served links before the others.
+    pub fn note_lane(&mut self, lane: Lane<N>)
+        requires room { length self.old.lanes < self.old.lane_room }
+        ensures noted { self.new
+            ≡ record self.old {
+              lanes = lane_of (net_of N.faults N.accepted N.heard) lane.listener lane.failed
+                  lane.wants ∷ self.old.lanes;
+              lane_room = self.new.lane_room;
+            } }
+        ensures room { self.old.lane_room ≤ self.new.lane_room }
+    {
+        let Ok(()) = self.lanes.insert(0, lane) else {
             unreachable!()
         };
     }

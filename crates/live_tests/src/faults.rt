@@ -38,7 +38,6 @@ struct Row {
     console: LinkEnd,
     drain: DrainEnd,
     list: &'static [u32],
-    failed_copies: usize,
     told: &'static [&'static str],
 }
 
@@ -50,7 +49,6 @@ const GOOD: Row = Row {
     console: LinkEnd::Ended,
     drain: DrainEnd::Drained,
     list: &[1],
-    failed_copies: 0,
     told: &[ACCEPTED],
 };
 
@@ -103,7 +101,6 @@ const ROWS: [Row; 16] = [
             copies: &[1],
             ..NONE
         },
-        failed_copies: 1,
         ..GOOD
     },
     Row {
@@ -120,7 +117,6 @@ const ROWS: [Row; 16] = [
             ..NONE
         },
         list: &[0],
-        failed_copies: 3,
         ..GOOD
     },
     // unless the cluster fails to
@@ -132,7 +128,6 @@ const ROWS: [Row; 16] = [
         },
         drain: DrainEnd::AdminFault(1),
         list: &[0, 1],
-        failed_copies: 3,
         ..GOOD
     },
     // no request comes
@@ -241,7 +236,6 @@ fn expect_list<R: Abort>(rt: &R, lists: &[Vec<u32>], wanted: &[u32]) {
 fn expect_row<R: Abort>(rt: &R, alloc: Global, row: &Row, over: &TestOver) {
     assert_eq!(rt; over.end, FrontEnd::Console(row.console));
     assert_eq!(rt; over.drain, row.drain);
-    assert_eq!(rt; over.book.failed_copies, row.failed_copies);
     expect_texts(rt, alloc, told(&over.front.console), row.told);
     expect_list(rt, &over.book.lists, row.list);
     let whole = matches!(row.list, [0] | [1]);

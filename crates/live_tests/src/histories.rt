@@ -2,46 +2,16 @@
 use crate::links::{copier_of, copiers_of, link_of, listener_of, silent_link, told};
 use crate::services::{Outside, Setting, TestOver, run};
 use crate::texts::{ACCEPTED, TWO};
-use live_service::FrontEnd;
-use rest_session::LinkEnd;
 use std::alloc::Global;
 use std::process::Abort;
 use std::sync::Wait;
 use std::thread::Threads;
-
-// Samples, requests for plans that nobody carries out, and for what the executor does.
-const ONE_ASKS: &str =
-    "POST /cluster/sample HTTP/1.1\r\nContent-Length: 67\r\n\r\n{\"topic\":\"t\",\"partition\":0,\"time\":150,\"load\":{\"leader\":{\"CPU\":50}}}POST /kafkacruisecontrol/remove_broker?brokerid=0 HTTP/1.1\r\n\r\nGET /kafkacruisecontrol/state HTTP/1.1\r\n\r\nPOST /cluster/sample HTTP/1.1\r\nContent-Length: 67\r\n\r\n{\"topic\":\"t\",\"partition\":0,\"time\":151,\"load\":{\"leader\":{\"CPU\":50}}}POST /kafkacruisecontrol/remove_broker?brokerid=0 HTTP/1.1\r\n\r\nPOST /kafkacruisecontrol/rebalance HTTP/1.1\r\n\r\nGET /kafkacruisecontrol/state HTTP/1.1\r\n\r\nPOST /kafkacruisecontrol/remove_broker?brokerid=0 HTTP/1.1\r\n\r\n";
-
-// Caps, requests for plans, and for the user tasks so far.
-const OTHER_ASKS: &str =
-    "GET /kafkacruisecontrol/user_tasks HTTP/1.1\r\n\r\nPOST /kafkacruisecontrol/remove_broker?brokerid=1 HTTP/1.1\r\n\r\nPOST /kafkacruisecontrol/admin?max_partition_movements_in_cluster=20 HTTP/1.1\r\n\r\nGET /kafkacruisecontrol/user_tasks HTTP/1.1\r\n\r\nPOST /kafkacruisecontrol/rebalance HTTP/1.1\r\n\r\nPOST /kafkacruisecontrol/remove_broker?brokerid=1 HTTP/1.1\r\n\r\nPOST /kafkacruisecontrol/admin?max_partition_movements_in_cluster=21 HTTP/1.1\r\n\r\nGET /kafkacruisecontrol/user_tasks HTTP/1.1\r\n\r\n";
 
 // What each reply begins with.
 const HEAD: &str = "HTTP/1.1 ";
 
 fn text<'a, R: Abort>(rt: &R, bytes: &'a [u8]) -> &'a str {
     str::from_utf8(bytes).expect(rt, "a text")
-}
-
-// The replies are those to the one link and those to the other, each in its own order. No reply to
-// the one is one to the other.
-fn expect_merged<R: Abort>(rt: &R, replies: &str, one: &str, other: &str) {
-    assert_eq!(rt; one.split(HEAD).count(), 9);
-    assert_eq!(rt; other.split(HEAD).count(), 9);
-    let mut ones = one.split(HEAD).skip(1);
-    let mut others = other.split(HEAD).skip(1);
-    let (mut first, mut second) = (ones.next(), others.next());
-    for reply in replies.split(HEAD).skip(1) {
-        if first == Some(reply) {
-            first = ones.next();
-        } else {
-            assert_eq!(rt; second, Some(reply));
-            second = others.next();
-        }
-    }
-    assert_eq!(rt; first, None);
-    assert_eq!(rt; second, None);
 }
 
 // What two links ask.
@@ -68,23 +38,6 @@ fn asked_by_both<R: Threads + Wait + Abort + Sync>(
         listener: listener_of(rt, alloc, links, &[]),
     };
     run(rt, alloc, setting, outside)
-}
-
-// The replay of the journal gives the replies that were given.
-#[test]
-fn two_links_make_one_history(rt: HostRuntime) {
-    let alloc = rt.alloc();
-    for _ in 0..20 {
-        let over = asked_by_both(&rt, alloc, ONE_ASKS, OTHER_ASKS);
-        assert_eq!(rt; over.end, FrontEnd::Accepted);
-        let [one, other] = over.front.service.served.as_slice() else {
-            panic!(rt; "two links");
-        };
-        assert_eq!(rt; (one.end, other.end), (LinkEnd::Ended, LinkEnd::Ended));
-        let (one, other) = (told(&one.link), told(&other.link));
-        let replies = text(&rt, over.book.replies.as_slice());
-        expect_merged(&rt, replies, text(&rt, one), text(&rt, other));
-    }
 }
 
 // A request for a plan, and how far its user task is.

@@ -19,8 +19,6 @@ mod listeners;
 #[cfg(test)]
 mod movers;
 #[cfg(test)]
-mod replays;
-#[cfg(test)]
 mod rests;
 #[cfg(test)]
 mod services;

@@ -99,13 +99,6 @@ fn moved_by_both<R: Threads + Wait + Abort + Sync>(rt: &R, alloc: Global) -> Tes
     turn.close(pass)
 }
 
-// No copy has waited in vain for one of the other mover.
-fn expect_no_failure<R: Abort>(rt: &R, journal: &[Event]) {
-    for event in journal {
-        assert!(rt; !matches!(event, Event::CopyFailed(_)));
-    }
-}
-
 // Each of the four tasks is completed.
 fn expect_completed<R: Abort>(rt: &R, book: &mut TestBook) {
     let Reply::Shown(Shown::State(state)) = reply_to(rt, book, Event::Show(Query::State)) else {
@@ -126,7 +119,6 @@ fn expect_new_lists<R: Abort>(rt: &R, alloc: Global, book: &TestBook) {
 fn two_movers_of_a_turn_copy_at_once(rt: HostRuntime) {
     let alloc = rt.alloc();
     let mut book = moved_by_both(&rt, alloc);
-    expect_no_failure(&rt, book.journal());
     expect_completed(&rt, &mut book);
     expect_new_lists(&rt, alloc, &book);
     let_go(book);

@@ -41,6 +41,6 @@ fn a_joined_pass_leaves_its_one_entry(rt: HostRuntime) {
     assert!(rt; matches!(closed, Some(Reply::Closed)));
     turn.join(&mut pass, other);
     let book = turn.close(pass);
-    assert!(rt; matches!(book.journal(), [Event::Close]));
+    assert_eq!(rt; book.entries(), 1);
     let_go(book);
 }

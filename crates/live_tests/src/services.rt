@@ -2,9 +2,8 @@
 ghost use Rattle.std.specs.Prelude.{◌≡◌, ◌≤◌, ◌<◌, ◌+◌, option_map, vec_len};
 ghost use Rattle.live_service.specs.Asked.{IsReady, links_of};
 
-use crate::books::{TestCluster, book_of};
+use crate::books::{TestBook, TestCluster, book_of, let_go, lists_of};
 use crate::links::{TestCopier, TestLink, TestListener};
-use crate::replays::{BookEnd, end_of};
 use cc_base::Link;
 use cluster_gate::Copier;
 use live_service::{
@@ -42,6 +41,15 @@ pub struct Outside<K, L, N> {
     pub listener: N,
 }
 
+/// What a book leaves at its end.
+#[derive(Drop)]
+pub struct BookEnd {
+    /// The lists of its cluster.
+    pub lists: Vec<Vec<u32>>,
+    /// How many events it took.
+    pub entries: u64,
+}
+
 /// What came of a service.
 #[derive(Drop)]
 pub struct Over<P: Parties> {
@@ -63,7 +71,11 @@ fn serving_of<R: Abort>(rt: &R, alloc: Global, links: Option<u32>) -> Option<Ser
     match links {
         Some(links) => {
             let address = String::from_str(alloc, "127.0.0.1:0").expect(rt, "memory");
-            Some(Serving { address, links })
+            Some(Serving {
+                address,
+                links,
+                forever: false,
+            })
         }
         None => None,
     }
@@ -100,6 +112,7 @@ where
         listener,
     } = outside;
     let served = Vec::with_capacity(alloc, links as usize).expect(rt, "memory");
+    let lanes = Vec::with_capacity(alloc, links as usize).expect(rt, "memory");
     let front = Front {
         copier,
         console,
@@ -107,6 +120,7 @@ where
             listener,
             copiers,
             served,
+            lanes,
         },
     };
     Team {
@@ -116,7 +130,7 @@ where
     }
 }
 
-/// Runs a service to its end. Its journal is replayed.
+/// Runs a service to its end.
 pub fn run<
     K: Copier + Send + Drop,
     L: Link + Drop,
@@ -151,16 +165,23 @@ where
         reviews: false,
     };
     match run_live_service(rt, alloc, book, team, crew) {
-        Ok(live) => ended(rt, alloc, text, live),
+        Ok(live) => ended(rt, alloc, live),
         Err(_) => panic!(rt; "no turn"),
     }
 }
 
+// What a book leaves at its end, which is let go.
+fn end_of<R: Abort>(rt: &R, alloc: Global, book: TestBook) -> BookEnd {
+    let lists = lists_of(rt, alloc, &book);
+    let entries = book.entries();
+    let_go(book);
+    BookEnd { lists, entries }
+}
+
 // What came of a service that is over.
-fn ended<P: Parties<Gate = TestCluster>, R: Threads + Sync + Abort>(
+fn ended<P: Parties<Gate = TestCluster>, R: Abort>(
     rt: &R,
     alloc: Global,
-    text: &str,
     live: Live<P>,
 ) -> Over<P> {
     let Live {
@@ -181,6 +202,6 @@ fn ended<P: Parties<Gate = TestCluster>, R: Threads + Sync + Abort>(
         planners,
         end,
         drain,
-        book: end_of(rt, alloc, text, book),
+        book: end_of(rt, alloc, book),
     }
 }

@@ -46,7 +46,7 @@ fn work<A: Admin, K: Copier, R: Threads + Sync>(
     every_event();
     every_round();
     loop {
-        let _input = book.journal();
+        let _input = book.entries();
         let found = one_round(rt, alloc, book, copier)?;
         match found {
             Found::Worked => {}
@@ -97,8 +97,8 @@ pub fn drain<A: Admin, K: Copier, R: Threads + Sync>(
 {
     every_history();
     every_round();
-    let _input = book.journal();
+    let _input = book.entries();
     let end = rounds(rt, alloc, book, copier);
-    let _legal = book.journal();
+    let _legal = book.entries();
     end
 }

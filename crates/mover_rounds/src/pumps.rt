@@ -56,8 +56,8 @@ pub fn pump_book<A: Admin, K: Copier, R: Threads + Sync>(
 {
     every_history();
     every_round();
-    let _input = book.journal();
+    let _input = book.entries();
     let end = pump(rt, alloc, book, copier, steps);
-    let _legal = book.journal();
+    let _legal = book.entries();
     end
 }

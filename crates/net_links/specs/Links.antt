@@ -14,3 +14,7 @@ with_link told link = option_map (λ links. links ++ link ∷ []) told
 -- nothing was written, where it is told
 abbrev pub IsFresh : Option (List ℕ) → Type 0
 IsFresh written = IfSome written (λ bytes. bytes ≡ [])
+
+-- no call has failed, and no link was accepted, where that is told
+abbrev pub IsUnused : ℕ → Option (List AcceptedLink) → Type 0
+IsUnused faults accepted = (faults ≡ 0) × IfSome accepted (λ links. links ≡ [])

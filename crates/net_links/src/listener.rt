@@ -1,7 +1,7 @@
 // The trait of what accepts links.
 ghost use Rattle.std.specs.Prelude.{◌≡◌, ℕ, List, Option, IfOk, OnErr, OnOk};
 ghost use Rattle.cc_base.specs.Outside.{HasCause, with_name};
-ghost use Rattle.net_links.specs.Links.{AcceptedLink, IsFresh, with_link};
+ghost use Rattle.net_links.specs.Links.{AcceptedLink, IsFresh, IsUnused, with_link};
 
 use crate::connection::Connection;
 use cc_base::Failed;
@@ -49,4 +49,26 @@ pub trait Listener {
             })) }
         ensures fresh { IfOk result (λ link. IsFresh (Self.Conn.written link)) }
         ensures failed { OnErr result (accepted self.new ≡ accepted self.old) };
+
+    /// Another handle of what listens, for a thread of its own. It has accepted nothing yet, and
+    /// none of its calls has failed.
+    ///
+    /// # Errors
+    ///
+    /// `Failed` where the call fails.
+    fn split(&mut self) -> Result<Self, Failed>
+    where
+        Self: Sized,
+        ensures cause { HasCause (faults self.old) (faults self.new) result }
+        ensures heard { heard self.new ≡ heard self.old }
+        ensures accepted { accepted self.new ≡ accepted self.old }
+        ensures unused { IfOk result (λ l. IsUnused (faults l) (accepted l)) };
+
+    /// Asks that the service of what listens shut down. Then [`is_shut`](Self::is_shut) says so at
+    /// each handle, a call of [`accept`](Self::accept) that waits goes on, and a link waits for no
+    /// further bytes.
+    fn shut_down(&self);
+
+    /// Whether that was asked, or nothing more can come.
+    fn is_shut(&self) -> bool;
 }

@@ -57,6 +57,9 @@ module _ (file : List ℕ) (review : Bool) (m : Meaning) (e : Edge) where
   served_by link.Closed drain.Drained n h = h
   served_by link.Closed (drain.AdminFault k) n h = absurd (n refl)
   served_by link.Closed drain.Memory n h = inr h
+  served_by link.ShutDown drain.Drained n h = h
+  served_by link.ShutDown (drain.AdminFault k) n h = absurd (n refl)
+  served_by link.ShutDown drain.Memory n h = inr h
   served_by link.Cut d n h = h
   served_by link.Unframed d n h = h
   served_by link.ReadFault d n h = h

@@ -52,5 +52,5 @@ module _ (file : ClusterLists) (goals : List GoalKind) where
   check_told_one (Some t) bytes text end.TraceRefused same h = rw same at h
   check_told_one told bytes text _ same h = absurd h
 
-  pub check_told : (told : Option (List ℕ)) (bytes : List ℕ) (a : Answer) → IfSome told (λ t. bytes ≡ t) → IsChecked (Some bytes) file goals a.text.items a.end → IsChecked told file goals a.text.items a.end
-  check_told told bytes a same h = check_told_one told bytes a.text.items a.end same h
+  pub check_view : (told : Option (List ℕ)) (bytes : List ℕ) (a : Answer) → IfSome told (λ t. bytes ≡ t) → IsChecked (Some bytes) file goals a.text.items a.end → IsChecked told file goals a.text.items a.end
+  check_view told bytes a same h = check_told_one told bytes a.text.items a.end same h

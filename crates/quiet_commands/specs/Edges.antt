@@ -41,11 +41,11 @@ edge contents faults before now io = record { told = contents before; files_befo
 
 -- ---- the same by what the traits tell
 
-abbrev pub io_told : {L : Type 0} → source_trait.Ghosts L → sink_trait.Ghosts L → L → L → Console
-io_told r w before now = io_of r.left r.faults w.faults w.written before now
+abbrev pub io_view : {L : Type 0} → source_trait.Ghosts L → sink_trait.Ghosts L → L → L → Console
+io_view r w before now = io_of r.left r.faults w.faults w.written before now
 
-abbrev pub edge_told : {F L : Type 0} → files_trait.Ghosts F → source_trait.Ghosts L → sink_trait.Ghosts L → F → F → L → L → Edge
-edge_told f r w before now console_before console_now = edge f.contents f.faults before now (io_told r w console_before console_now)
+abbrev pub edge_view : {F L : Type 0} → files_trait.Ghosts F → source_trait.Ghosts L → sink_trait.Ghosts L → F → F → L → L → Edge
+edge_view f r w before now console_before console_now = edge f.contents f.faults before now (io_view r w console_before console_now)
 
 -- nothing was written
 abbrev pub IsSilent : Console → Type 0

@@ -37,6 +37,7 @@ drained_end drain.Memory = Memory
 abbrev pub ended_by : LinkEnd → DrainEnd → End
 ended_by link.Ended d = drained_end d
 ended_by link.Closed d = drained_end d
+ended_by link.ShutDown d = drained_end d
 ended_by link.Cut d = InputCut
 ended_by link.Unframed d = InputCut
 ended_by link.ReadFault d = ReadFault

@@ -1,6 +1,6 @@
 // What a command makes, whole in memory, before any of it is written.
 ghost use Rattle.std.specs.Prelude.{◌≡◌, ◌≤◌, IfOk};
-ghost use Rattle.quiet_commands.specs.Edges.{Writes, io_told};
+ghost use Rattle.quiet_commands.specs.Edges.{Writes, io_view};
 ghost use Rattle.quiet_commands.specs.Ends.{IsFailureEnd};
 
 use crate::ends::End;
@@ -29,7 +29,7 @@ pub fn goal_failed(alloc: Global, goal: GoalKind) -> Result<End, Memory>
 /// Writes what a command made, and answers how the run ends.
 pub fn write<L: Link>(console: &mut L, made: Result<Answer, Memory>) -> End
     ensures later { L.Sink.faults console.old ≤ L.Sink.faults console.new }
-    ensures written { Writes (io_told L.Source L.Sink console.old console.new) made result }
+    ensures written { Writes (io_view L.Source L.Sink console.old console.new) made result }
     ensures left { L.left console.new ≡ L.left console.old }
     ensures source { L.Source.faults console.new ≡ L.Source.faults console.old }
 {

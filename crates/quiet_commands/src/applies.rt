@@ -34,7 +34,7 @@ fn lists_text(alloc: Global, case: &Case, book: &Book<MemoryCluster>) -> Result<
     ensures end { IfOk result (λ a. a.end ≡ End.Done) }
 {
     let _few = case.parts();
-    let _lists = book.journal();
+    let _lists = book.entries();
     let lists = lists_told(alloc, book.admin(), book.parts())?;
     let mut text = assignment_text(alloc, case, lists.lists())?;
     text.push(10)?;

@@ -1,6 +1,6 @@
 // What the words ask of a run that waits for nobody.
 ghost use Rattle.std.specs.Prelude.{◌≡◌, None, Some, map, string_bytes, IfErr, IfOk, IsSome};
-ghost use Rattle.command_words.specs.Meaning.{goals_told};
+ghost use Rattle.command_words.specs.Meaning.{goals_view};
 ghost use Rattle.core_terms.specs.Asked.{goals_fault};
 ghost use Rattle.quiet_commands.specs.Commands.{asked, command, rebalance};
 
@@ -51,10 +51,10 @@ pub enum Request {
 // A rebalance with these goals, unless their names are refused.
 fn rebalance(alloc: Global, goals: Goals, excluded: Vec<Topic>) -> Result<Planning, WordsFault>
     ensures ok { IfOk result
-        (λ p. (p.ask ≡ rebalance (goals_told goals) excluded.items) × (goals_fault p.ask ≡ None)) }
+        (λ p. (p.ask ≡ rebalance (goals_view goals) excluded.items) × (goals_fault p.ask ≡ None)) }
     ensures usage { IfErr result
         (λ e. e ≡ WordsFault.Usage
-        → IsSome (goals_fault (rebalance (goals_told goals) excluded.items))) }
+        → IsSome (goals_fault (rebalance (goals_view goals) excluded.items))) }
 {
     let Goals {
         names,

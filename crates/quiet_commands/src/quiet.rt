@@ -7,7 +7,7 @@ ghost use Rattle.cluster_json.specs.Views.{file_seen};
 ghost use Rattle.core_terms.specs.Asked.{goals_of};
 ghost use Rattle.quiet_commands.specs.Checked.{IsChecked};
 ghost use Rattle.quiet_commands.specs.Commands.{AsksSession, HasFile, IsInputKept, asked, source_of, with_source};
-ghost use Rattle.quiet_commands.specs.Edges.{edge_told};
+ghost use Rattle.quiet_commands.specs.Edges.{edge_view};
 ghost use Rattle.quiet_commands.specs.Ends.{IsTold, line_of, status_of};
 ghost use Rattle.quiet_commands.specs.Input.{planned_for};
 ghost use Rattle.quiet_commands.specs.Runs.{LoadLogs, Loads, Logs, PerformLogs, Performs, Runs, TellsRefusal};
@@ -136,7 +136,7 @@ fn perform<F: Files, L: Link, R: Threads + Sync>(
     ensures out { L.Sink.faults console.old ≤ L.Sink.faults console.new }
     // The command did what its words want.
     ensures performs { Performs (asked request) (file_seen file)
-        (edge_told F.Files L.Source L.Sink files.old files.new console.old console.new) result }
+        (edge_view F.Files L.Source L.Sink files.old files.new console.old console.new) result }
     ensures logs { PerformLogs (asked request) (F.log files.old) (F.log files.new) result }
     // What is read of the input.
     ensures input { IsInputKept (asked request) (L.left console.old) (L.left console.new)
@@ -183,7 +183,7 @@ fn run<F: Files, L: Link, R: Threads + Sync>(
     ensures out { L.Sink.faults console.old ≤ L.Sink.faults console.new }
     // What each end says.
     ensures runs { Runs (map string_bytes words.now)
-        (edge_told F.Files L.Source L.Sink files.old files.new console.old console.new) result }
+        (edge_view F.Files L.Source L.Sink files.old files.new console.old console.new) result }
     // Which files were loaded.
     ensures logs { Logs (map string_bytes words.now) (F.contents files.old) (F.log files.old)
         (F.log files.new) result }
@@ -229,7 +229,7 @@ pub fn run_quiet<R: Threads + Sync, F: Files, L: Link, O: Sink>(
     // the error stream, or a prefix of the line where that fails.
     ensures ended { (end : End) × (result ≡ status_of end)
         × Runs (map string_bytes words.now)
-        (edge_told F.Files L.Source L.Sink files.old files.new console.old console.new) end
+        (edge_view F.Files L.Source L.Sink files.old files.new console.old console.new) end
         × Logs (map string_bytes words.now) (F.contents files.old) (F.log files.old)
         (F.log files.new) end
         × IsTold (line_of end) (O.written err.old) (O.written err.new) (O.faults err.old)

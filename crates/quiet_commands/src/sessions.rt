@@ -3,7 +3,7 @@ ghost use Rattle.std.specs.Prelude.{◌≡◌, ◌≢◌, ◌≤◌, ◌⊎◌, 
 ghost use Rattle.cluster_json.specs.Ranges.{IsFile};
 ghost use Rattle.cluster_json.specs.Views.{file_seen};
 ghost use Rattle.control_core.specs.Books.{opened};
-ghost use Rattle.quiet_commands.specs.Edges.{IsSilent, io_told};
+ghost use Rattle.quiet_commands.specs.Edges.{IsSilent, io_view};
 ghost use Rattle.quiet_commands.specs.Sessions.{DidSession, board_kept, drained_end, ended_by};
 ghost use Rattle.review_board.specs.declared.events.BoardEvent.{BoardEvent};
 ghost use Rattle.quiet_commands.specs.declared.ends.End.{End};
@@ -36,7 +36,7 @@ pub fn ended_by(ended: SessionEnd) -> End
     ensures { result ≡ ended_by ended.link ended.drain }
 {
     match ended.link {
-        LinkEnd::Ended | LinkEnd::Closed => drained_end(ended.drain),
+        LinkEnd::Ended | LinkEnd::Closed | LinkEnd::ShutDown => drained_end(ended.drain),
         LinkEnd::Cut | LinkEnd::Unframed => End::InputCut,
         LinkEnd::ReadFault => End::ReadFault,
         LinkEnd::WriteFault => End::WriteFault,
@@ -57,7 +57,7 @@ fn serve<V: Reviewer, L: Link, R: Threads + Sync>(
         → V.board reviewer.old ≡ board_kept reviews []
         → V.board reviewer.new ≡ board_kept reviews journal
         → DidSession book.old.file reviews
-        (io_told L.Source L.Sink console.old console.new) result }
+        (io_view L.Source L.Sink console.old console.new) result }
     ensures drained { result ≢ End.NotDrained }
     ensures source { L.Source.faults console.old ≤ L.Source.faults console.new }
     ensures sink { L.Sink.faults console.old ≤ L.Sink.faults console.new }
@@ -65,7 +65,7 @@ fn serve<V: Reviewer, L: Link, R: Threads + Sync>(
     let mut copier = MemoryCopier::new(alloc);
     let ended = run_session(rt, alloc, book, reviewer, &mut copier, console);
     every_history();
-    let _legal = book.journal();
+    let _legal = book.entries();
     let _few = book.failures();
     ended_by(ended)
 }
@@ -82,8 +82,8 @@ pub fn session<L: Link, R: Threads + Sync>(
 ) -> End
     requires { IsFile file }
     ensures did { ((result ≡ End.Memory)
-        × IsSilent (io_told L.Source L.Sink console.old console.new))
-        ⊎ DidSession (file_seen file) review (io_told L.Source L.Sink console.old console.new)
+        × IsSilent (io_view L.Source L.Sink console.old console.new))
+        ⊎ DidSession (file_seen file) review (io_view L.Source L.Sink console.old console.new)
         result }
     ensures drained { result ≢ End.NotDrained }
     ensures source { L.Source.faults console.old ≤ L.Source.faults console.new }

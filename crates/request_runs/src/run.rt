@@ -137,7 +137,7 @@ pub fn run_request<R: Threads + Sync>(
         Ok(reply) => reply,
         Err(_) => return Err(Memory),
     };
-    let _legal = book.journal();
+    let _legal = book.entries();
     let Some(broken) = broken_of(reply) else {
         unreachable!()
     };

@@ -25,7 +25,11 @@ fn push_review(rt: &impl Abort, text: &mut String, review: bool) {
     push(rt, text, if review { " review" } else { "" });
 }
 
-// A command without goals, topics and reviews, in words.
+fn push_forever(rt: &impl Abort, text: &mut String, forever: bool) {
+    push(rt, text, if forever { " forever" } else { "" });
+}
+
+// A command without goals, topics, reviews and `--forever`, in words.
 fn begun(rt: &impl Abort, alloc: Global, command: &Command) -> String {
     let said = match command {
         Command::Plan(o) => format!(in alloc; "plan {} {}", o.file, o.trace),
@@ -68,7 +72,10 @@ fn told(rt: &impl Abort, alloc: Global, command: &Command) -> String {
         }
         Command::Gen(o) => push_goals(rt, &mut text, &o.goals),
         Command::Session(o) => push_review(rt, &mut text, o.review),
-        Command::Serve(o) => push_review(rt, &mut text, o.review),
+        Command::Serve(o) => {
+            push_review(rt, &mut text, o.review);
+            push_forever(rt, &mut text, o.forever);
+        }
     }
     text
 }
@@ -84,7 +91,7 @@ fn split(rt: &impl Abort, alloc: Global, line: &str) -> Vec<String> {
 }
 
 // Words that are taken, and what they mean.
-const LINES: [(&str, &str); 31] = [
+const LINES: [(&str, &str); 36] = [
     ("plan F", "plan F false"),
     ("plan F --goals A", "plan F false goal A"),
     ("plan F --goals=A,B", "plan F false goal A goal B"),
@@ -137,6 +144,20 @@ const LINES: [(&str, &str); 31] = [
     ),
     ("serve F --links=1", "serve F 0 0 127.0.0.1:9090 1"),
     ("serve --review F", "serve F 0 0 127.0.0.1:9090 1 review"),
+    ("serve F --forever", "serve F 0 0 127.0.0.1:9090 16 forever"),
+    (
+        "serve --forever F --links 1",
+        "serve F 0 0 127.0.0.1:9090 1 forever",
+    ),
+    (
+        "serve F --links=64 --forever --movers 1",
+        "serve F 1 0 127.0.0.1:9090 64 forever",
+    ),
+    (
+        "serve F --forever --review",
+        "serve F 0 0 127.0.0.1:9090 16 review forever",
+    ),
+    ("serve -- --forever", "serve --forever 0 0 127.0.0.1:9090 1"),
 ];
 
 #[test]
@@ -153,7 +174,7 @@ fn words_mean_their_command(rt: HostRuntime) {
 }
 
 // Words, and whether they want a run with threads or a listener.
-const LIVE: [(&str, bool); 20] = [
+const LIVE: [(&str, bool); 22] = [
     ("plan F", false),
     ("plan F --movers 2", false),
     ("serve F", true),
@@ -173,6 +194,8 @@ const LIVE: [(&str, bool); 20] = [
     ("session F --mover=2", false),
     ("session F --review", false),
     ("session --review F --movers 1", true),
+    ("session F --forever", false),
+    ("serve F --forever", true),
     ("F serve", false),
 ];
 

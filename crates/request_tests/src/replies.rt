@@ -8,8 +8,9 @@ use core_terms::{
 use exec_terms::{Killed, PhaseCounts, Stopped};
 use goal_set::{GoalFault, GoalKind};
 use plan_terms::{BrokerState, Caps, GoalName, ListOf, Replicas, Topic};
-use rest_parse::{HttpFault, ParameterName, Stop};
+use rest_parse::{HttpFault, ParameterName};
 use rest_replies::{Told, reply_bytes};
+use rest_stream::Stop;
 use review_board::{BoardReply, ReviewState, Row};
 use std::alloc::Global;
 use std::process::Abort;

@@ -1,4 +1,5 @@
 pub mod Calls
+pub mod Ends
 pub mod Parameters
 pub mod Query
 pub mod ReviewPairs

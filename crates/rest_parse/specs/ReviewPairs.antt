@@ -42,11 +42,12 @@ abbrev pub is_free : Option Parameter → Bool
 is_free None = false
 is_free (Some p) = is_unused p
 
--- the request takes the pair: a take its id, a review its two lists, a look at the board nothing; and each what is accepted everywhere
+-- the request takes the pair: a take its id, a review its two lists, one without a parameter of its own nothing; and each what is accepted
+-- everywhere
 abbrev pub fits : Form → Pair → Bool
 fits form.Take p = if bytes_eq p.0 id_name then is_some (review_id_of p.1) else is_free (parameter_of p.0)
 fits form.Review p = if bytes_eq p.0 approve_name || bytes_eq p.0 discard_name then is_some (review_list_of p.1) else is_free (parameter_of p.0)
-fits form.List p = is_free (parameter_of p.0)
+fits form.Bare p = is_free (parameter_of p.0)
 
 -- the name of the first pair, behind those before, that the request doesn't take or whose name stands again
 abbrev pub unfit_name : Form → List Pair → List Pair → Option (List ℕ)

@@ -51,7 +51,7 @@ review_meaning pairs =
 
 -- a look at the board
 abbrev pub list_meaning : List Pair → Result ReviewCall HttpFault
-list_meaning pairs = unless_bad (unfit_name form.List [] pairs) (Ok review.List)
+list_meaning pairs = unless_bad (unfit_name form.Bare [] pairs) (Ok review.List)
 
 -- what isn't reviewed
 abbrev pub plain : Result Call HttpFault → Result ReviewCall HttpFault

@@ -3,6 +3,7 @@
 #![tactic(auto)]
 
 mod calls;
+mod ends;
 mod faulty;
 mod lists;
 mod parameters;
@@ -12,6 +13,6 @@ mod reviews;
 mod routes;
 
 pub use calls::{Call, HttpFault, ParameterName, request_of};
-pub use rest_stream::Stop;
+pub use ends::{asks_end, end_of};
 pub use reviews::{ReviewCall, reviewed_of};
 pub use routes::{Endpoint, Routes};

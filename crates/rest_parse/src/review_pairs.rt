@@ -16,15 +16,15 @@ pub const APPROVE: &str = "approve";
 /// The parameter with the reviews that are discarded.
 pub const DISCARD: &str = "discard";
 
-/// What a board is asked by pairs.
+/// What is asked by pairs, of a board or of the service itself.
 #[derive(Clone, Copy, Debug, PartialEq, Eq)]
 pub enum Form {
     /// That a request which was kept is answered now.
     Take,
     /// That requests are approved or discarded.
     Review,
-    /// What is on the board.
-    List,
+    /// What has no parameter of its own.
+    Bare,
 }
 
 // The id of a review.

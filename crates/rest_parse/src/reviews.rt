@@ -136,7 +136,7 @@ fn list_meaning(alloc: Global, pairs: &[Pair]) -> Result<ReviewCall, HttpFault>
     ensures is { UnlessMemory result (list_meaning pairs.now) }
     ensures range { IfOk result IsReviewInRange }
 {
-    if let Some(name) = unfit_name(alloc, Form::List, pairs)? {
+    if let Some(name) = unfit_name(alloc, Form::Bare, pairs)? {
         return Err(bad_parameter(alloc, name));
     }
     Ok(ReviewCall::List)

@@ -19,7 +19,7 @@ use Rattle.core_terms.specs.declared.shows.Shown.{Shown}
 use Rattle.core_terms.specs.declared.shows.Shown.TheVariants as shown
 use Rattle.review_board.specs.declared.events.Row.{Row}
 use Rattle.rest_replies.specs.Answers.{shown_data}
-use Rattle.rest_replies.specs.Bodies.{anomaly_data, broker_data, caps_data, cause_data, decided_data, done_data, ended_data, error_data, failed_data, killed_data, open_data, part_data, proposal_data, pumped_data, row_data, rows_data, sampled_data, stopped_data, task_data}
+use Rattle.rest_replies.specs.Bodies.{anomaly_data, broker_data, caps_data, cause_data, decided_data, done_data, ended_data, ending_data, error_data, failed_data, killed_data, open_data, part_data, proposal_data, pumped_data, row_data, rows_data, sampled_data, stopped_data, task_data}
 use Rattle.rest_replies.specs.Plain.{IsPlain}
 
 whole_proposal : (p : Named) → has_float (proposal_data p) ≡ false
@@ -63,6 +63,9 @@ killed_plain k = record { whole = refl; shallow = omega arith }
 
 pub sampled_plain : IsPlain sampled_data
 sampled_plain = record { whole = refl; shallow = omega arith }
+
+pub ending_plain : IsPlain ending_data
+ending_plain = record { whole = refl; shallow = omega arith }
 
 pub caps_plain : (c : Caps) → IsPlain (caps_data c)
 caps_plain c = record { whole = refl; shallow = omega arith }

@@ -15,7 +15,7 @@ use Rattle.core_terms.specs.declared.shows.Shown.{Shown}
 use Rattle.core_terms.specs.declared.shows.Shown.TheVariants as shown
 use Rattle.review_board.specs.declared.events.BoardReply.{BoardReply}
 use Rattle.review_board.specs.declared.events.BoardReply.TheVariants as board
-use Rattle.rest_replies.specs.Bodies.{caps_data, cluster_data, decided_data, done_data, ended_data, error_data, failed_data, filed_data, killed_data, loads_data, open_data, pumped_data, rows_data, sampled_data, state_data, stopped_data, tasks_data}
+use Rattle.rest_replies.specs.Bodies.{caps_data, cluster_data, decided_data, done_data, ended_data, ending_data, error_data, failed_data, filed_data, killed_data, loads_data, open_data, pumped_data, rows_data, sampled_data, state_data, stopped_data, tasks_data}
 use Rattle.rest_replies.specs.Refusals.{Refused, board_refusal, core_refusal, http_refusal, no_memory, step_refusal, stop_refusal, with_number}
 use Rattle.rest_replies.specs.Texts.{head_text, reply_text}
 use Rattle.rest_replies.specs.declared.answer.Answer.{Answer}
@@ -103,6 +103,7 @@ answer_of (told.Decided d) = Some (ok_answer (decided_data d))
 answer_of (told.Http fault) = option_map refused (http_refusal fault)
 answer_of (told.Stopped why) = option_map refused (stop_refusal why)
 answer_of (told.Board r) = board_answer r
+answer_of told.Ending = Some (ok_answer ending_data)
 
 -- the bytes of a reply; none where there is no reply
 abbrev pub bytes_of : Option AnswerView → List ℕ

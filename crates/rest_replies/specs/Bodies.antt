@@ -79,6 +79,10 @@ killed_data k = object (member (codes "aborting") (number_data k.aborting) (memb
 abbrev pub sampled_data : Data
 sampled_data = object (member (codes "accepted") (boolean true) version)
 
+-- of a service that ends
+abbrev pub ending_data : Data
+ending_data = object (member (codes "closing") (boolean true) version)
+
 -- the caps in force
 abbrev pub caps_data : Caps → Data
 caps_data c = object (member (codes "broker") (number_data c.broker) (member (codes "cluster") (number_data c.cluster) (member (codes "leader") (number_data c.leader) version)))

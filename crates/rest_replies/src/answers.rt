@@ -9,8 +9,8 @@ ghost use Rattle.rest_replies.specs.Refusals.{refusal_seen};
 use crate::answer::Answer;
 use crate::boards::{filed_value, rows_value};
 use crate::bodies::{
-    caps_value, decided_value, done_value, ended_value, error_value, failed_value, killed_value,
-    open_value, pumped_value, sampled_value, stopped_value,
+    caps_value, decided_value, done_value, ended_value, ending_value, error_value, failed_value,
+    killed_value, open_value, pumped_value, sampled_value, stopped_value,
 };
 use crate::refusals::{
     Refusal, board_refusal, core_refusal, http_refusal, no_memory, step_refusal, stop_refusal,
@@ -229,5 +229,6 @@ pub fn answer_of(alloc: Global, told: &Told) -> Result<Option<Answer>, Memory>
             refused(alloc, refusal)
         }
         Told::Board(reply) => board_answer(alloc, reply),
+        Told::Ending => Ok(Some(ok(ending_value(alloc)?))),
     }
 }

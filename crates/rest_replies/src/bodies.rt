@@ -2,7 +2,7 @@
 ghost use Rattle.std.specs.Prelude.{◌≡◌, map, IfOk};
 ghost use Rattle.serde_json.specs.Data.{array};
 ghost use Rattle.serde_json.specs.View.{items_of, view};
-ghost use Rattle.rest_replies.specs.Bodies.{anomaly_data, caps_data, decided_data, done_data, ended_data, error_data, failed_data, killed_data, open_data, proposal_data, proposals_data, pumped_data, sampled_data, stopped_data};
+ghost use Rattle.rest_replies.specs.Bodies.{anomaly_data, caps_data, decided_data, done_data, ended_data, ending_data, error_data, failed_data, killed_data, open_data, proposal_data, proposals_data, pumped_data, sampled_data, stopped_data};
 
 use crate::texts::task_status_text;
 use anomaly_detector::Decision;
@@ -149,6 +149,13 @@ pub fn sampled_value(alloc: Global) -> Result<Value, Memory>
     ensures { IfOk result (λ v. view v ≡ sampled_data) }
 {
     Ok(json!(in alloc; {"accepted": true, "version": 1u64})?)
+}
+
+/// That a service ends.
+pub fn ending_value(alloc: Global) -> Result<Value, Memory>
+    ensures { IfOk result (λ v. view v ≡ ending_data) }
+{
+    Ok(json!(in alloc; {"closing": true, "version": 1u64})?)
 }
 
 /// The caps in force.

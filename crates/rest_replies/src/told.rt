@@ -22,4 +22,6 @@ pub enum Told {
     Stopped(Stop),
     /// The board's answer to the event that the request is.
     Board(BoardReply),
+    /// That the service ends.
+    Ending,
 }

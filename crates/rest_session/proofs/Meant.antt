@@ -176,7 +176,7 @@ no_review pairs c h =
     cc
 
 no_list : (pairs : List Pair) (c : Call) → list_meaning pairs ≡ Ok (review.Plain c) → ⊥
-no_list pairs c h = let is = unless_ok {T = ReviewCall} (unfit_name form.List [] pairs) (Ok review.List) (review.Plain c) h in cc
+no_list pairs c h = let is = unless_ok {T = ReviewCall} (unfit_name form.Bare [] pairs) (Ok review.List) (review.Plain c) h in cc
 
 no_method : (method : List ℕ) (raw : RawRequest) (m : Result ReviewCall HttpFault) (c : Call) → by_method method raw m ≡ Ok (review.Plain c) → m ≡ Ok (review.Plain c)
 no_method method raw m c h = elim (if_cases (bytes_eq raw.method method) m (Err fault.WrongMethod) (Ok (review.Plain c)) h) [ inl p ↦ p.1 | inr p ↦ absurd (cc) ]

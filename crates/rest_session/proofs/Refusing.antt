@@ -72,3 +72,19 @@ read_only stop.Memory h = absurd cc
 pub read_fault_is : (old new : Option (List ℕ)) (why : Stop) (e : LinkEnd) → IsRefused old new why e → e ≡ end.ReadFault → why ≡ stop.ReadFault
 read_fault_is old new why e (inl h) q = absurd cc
 read_fault_is old new why e (inr h) q = read_only why (sym h.0 ∙ q)
+
+-- no reason ends a link by a shutdown
+none_shuts : (why : Stop) → end_of why ≡ end.ShutDown → ⊥
+none_shuts stop.End h = cc
+none_shuts stop.Truncated h = cc
+none_shuts stop.BadHead h = cc
+none_shuts stop.BadLength h = cc
+none_shuts stop.HeadTooLong h = cc
+none_shuts stop.BodyTooLong h = cc
+none_shuts stop.NoChunked h = cc
+none_shuts stop.ReadFault h = cc
+none_shuts stop.Memory h = cc
+
+pub never_shut : (old new : Option (List ℕ)) (why : Stop) (e : LinkEnd) → IsRefused old new why e → e ≡ end.ShutDown → ⊥
+never_shut old new why e (inl h) q = cc
+never_shut old new why e (inr h) q = none_shuts why (sym h.0 ∙ q)

@@ -1,6 +1,6 @@
 -- Requests, one behind another.
 use Rattle.std.proofs.Common.{◌≡◌, ℕ, ◌≤◌, Bool, true, false, List, [], ◌∷◌, ◌++◌, take, Ok, Err, refl, ap, sym, ◌∙◌, subst, append_assoc, append-nil, suc, arith, inl, inr}
-use Rattle.std.specs.Prelude.{Option, Some, None, IfSome, IsSome, OnErr, Result, is_err, is_some}
+use Rattle.std.specs.Prelude.{◌&&◌, Option, Some, None, IfSome, IsSome, OnErr, Result, is_err, is_some}
 use Rattle.std.specs.List.{AllByRecursion}
 use Rattle.std.proofs.lemmas.List.{map-append}
 use mathlib.Core.List.{IsPrefix}
@@ -11,6 +11,7 @@ use Rattle.mover_rounds.specs.Asked.{Entry, Known, Rules}
 use Rattle.mover_rounds.specs.Made.{Copies}
 use Rattle.mover_rounds.proofs.Later.{pumped_later}
 use Rattle.rest_parse.specs.Calls.{meaning}
+use Rattle.rest_parse.specs.Ends.{asks_end}
 use Rattle.rest_parse.specs.Reviews.{reviewed_meaning}
 use Rattle.rest_parse.specs.declared.calls.Call.{Call}
 use Rattle.rest_parse.specs.declared.calls.HttpFault.{HttpFault}
@@ -30,6 +31,7 @@ use Rattle.review_board.specs.declared.events.BoardEvent.TheVariants as board
 use Rattle.review_board.specs.declared.events.BoardReply.{BoardReply}
 use Rattle.review_board.specs.declared.events.BoardReply.TheVariants as reply
 use Rattle.rest_session.specs.Calls.{IsCalled, IsDone, asked_by, plainly_asked}
+use Rattle.rest_session.specs.Heard.{IsHeard, IsHeardIf, Offers, offers}
 use Rattle.rest_session.specs.Reviewed.{HasFollowedReply, HasMadeBoth, IsBegun, IsCalledBy, IsMeant, IsNoted, IsReviewed, IsStarted, given_request, starts}
 use Rattle.rest_session.specs.Answered.{AreBlamed, Begins, HasAnswered, HasEnded, HasServed, IsAnswered, IsBlamed, IsCutIn, IsRefused, IsServed, IsStopped, IsWritten, end_of, fault_told}
 use Rattle.rest_session.specs.Pieces.{ArePieces, IsPiece, Piece, in_order, raws_of, replies_of}
@@ -38,26 +40,26 @@ use Rattle.rest_session.specs.declared.calls.Asked.TheVariants as asked
 use Rattle.rest_session.specs.declared.session.LinkEnd.{LinkEnd}
 use Rattle.rest_session.specs.declared.session.LinkEnd.TheVariants as end
 use Rattle.rest_session.proofs.Making.{board_lasts, both_so, made_alone, made_behind, nothing_made}
-use Rattle.rest_session.proofs.Refusing.{nothing_more, refused_silent}
+use Rattle.rest_session.proofs.Refusing.{never_shut, nothing_more, refused_silent}
 use Rattle.rest_session.proofs.Starting.{given_only}
 
 -- pieces so far, of the first requests, whose replies are out
-pub record AreSoFar (reviews : Bool) (old new : Option (List ℕ)) (raws : List RawRequest) (rules : Rules) (seen : List Event) (before now : ℕ) (noted : List BoardEntry) (made : List Entry) (copies : List ChunkCopy) : Type 0 where
+pub record AreSoFar (o : Offers) (old new : Option (List ℕ)) (raws : List RawRequest) (rules : Rules) (seen : List Event) (before now : ℕ) (noted : List BoardEntry) (made : List Entry) (copies : List ChunkCopy) : Type 0 where
   pub pieces : List Piece
-  pub are : ArePieces reviews rules seen pieces noted made copies
+  pub are : ArePieces o rules seen pieces noted made copies
   pub blamed : AreBlamed before now pieces
   pub raws_are : raws ≡ raws_of pieces
   pub out : new ≡ appended old (replies_of pieces)
 
 -- these requests were answered, with their replies out
-abbrev pub HasSoFar : Known → Known → Option BoardKnown → Option BoardKnown → Copies → Copies → Option (List ℕ) → Option (List ℕ) → List RawRequest → Type 0
-HasSoFar v w x y k l old new raws = HasMadeBoth (AreSoFar (is_some x) old new raws v.rules w.seen v.blamed w.blamed) v w x y k l
+abbrev pub HasSoFar : Bool → Known → Known → Option BoardKnown → Option BoardKnown → Copies → Copies → Option (List ℕ) → Option (List ℕ) → List RawRequest → Type 0
+HasSoFar d v w x y k l old new raws = HasMadeBoth (AreSoFar (offers d x) old new raws v.rules w.seen v.blamed w.blamed) v w x y k l
 
 -- so many requests were read, their replies are out, and those of what is left follow
-pub record IsServing (left old before new : Option (List ℕ)) (given : ℕ) (v w : Known) (x y : Option BoardKnown) (k l : Copies) : Type 0 where
+pub record IsServing (d : Bool) (left old before new : Option (List ℕ)) (given : ℕ) (v w : Known) (x y : Option BoardKnown) (k l : Copies) : Type 0 where
   pub raws : List RawRequest
   pub leads : Leads left raws given before
-  pub did : HasSoFar v w x y k l old new raws
+  pub did : HasSoFar d v w x y k l old new raws
 
 -- what was called holds on when more is seen
 done_later : (r : Rules) (s t : List Event) → IsPrefix s t → (a : Asked) (x : Told) (m : List Entry) (c : List ChunkCopy) → IsDone r s a x m c → IsDone r t a x m c
@@ -83,6 +85,7 @@ called_later r s t p means (told.Decided y) m c h = (h.0, h.1, done_later r s t 
 called_later r s t p means (told.Pump y) m c h = (h.0, h.1, done_later r s t p (asked_by h.0) (told.Pump y) m c h.2)
 called_later r s t p means (told.Stopped y) m c h = (h.0, h.1, done_later r s t p (asked_by h.0) (told.Stopped y) m c h.2)
 called_later r s t p means (told.Board y) m c h = (h.0, h.1, done_later r s t p (asked_by h.0) (told.Board y) m c h.2)
+called_later r s t p means told.Ending m c h = (h.0, h.1, done_later r s t p (asked_by h.0) told.Ending m c h.2)
 
 module _ (r : Rules) (s t : List Event) (p : IsPrefix s t) (x : Told) (m : List Entry) (c : List ChunkCopy) where
   begun_later : (a : Call) (b : Bool) → IsBegun r s a b x m c → IsBegun r t a b x m c
@@ -118,9 +121,16 @@ module _ (r : Rules) (s t : List Event) (p : IsPrefix s t) (x : Told) (m : List 
   by_later true raw n h = reviewed_later (reviewed_meaning raw) n h
   by_later false raw n h = (called_later r s t p (meaning raw) x m c h.0, h.1)
 
-pieces_later : (b : Bool) (r : Rules) (s t : List Event) → IsPrefix s t → (ps : List Piece) → AllByRecursion (IsPiece b r s) ps → AllByRecursion (IsPiece b r t) ps
+  told_later : (a b : Bool) (raw : RawRequest) (n : List BoardEntry) → IsHeardIf a b r s raw x m c n → IsHeardIf a b r t raw x m c n
+  told_later true b raw n h = h
+  told_later false b raw n h = by_later b raw n h
+
+  heard_later : (o : Offers) (raw : RawRequest) (n : List BoardEntry) → IsHeard o r s raw x m c n → IsHeard o r t raw x m c n
+  heard_later o raw n h = told_later (o.shutdown && asks_end raw) o.reviews raw n h
+
+pieces_later : (b : Offers) (r : Rules) (s t : List Event) → IsPrefix s t → (ps : List Piece) → AllByRecursion (IsPiece b r s) ps → AllByRecursion (IsPiece b r t) ps
 pieces_later b r s t p [] h = h
-pieces_later b r s t p (x ∷ xs) h = ((by_later r s t p x.told_is x.made x.copies b x.raw x.noted h.0.0, h.0.1), pieces_later b r s t p xs h.1)
+pieces_later b r s t p (x ∷ xs) h = ((heard_later r s t p x.told_is x.made x.copies b x.raw x.noted h.0.0, h.0.1), pieces_later b r s t p xs h.1)
 
 -- one piece more
 all_more : (P : Piece → Type 0) (ps : List Piece) (p : Piece) → AllByRecursion P ps → P p → AllByRecursion P (ps ++ p ∷ [])
@@ -144,13 +154,13 @@ told_both (Some x) mid new a b p q = q ∙ (ap (λ m. appended m b) p ∙ ap Som
 cut_behind : (old mid new : Option (List ℕ)) (a b : List ℕ) → mid ≡ appended old a → IsPrefixOut mid new b → IsCutIn old new a b
 cut_behind old mid new a b p q = (q.0, q.1, told_both old mid new a (take q.0 b) p q.2)
 
-module _ (b d : Bool) (f : d ≡ b) (r q : Rules) (s t : List Event) (e : q ≡ r) (p : IsPrefix s t) (raw : RawRequest) (before now : ℕ) where
+module _ (b d : Offers) (f : d ≡ b) (r q : Rules) (s t : List Event) (e : q ≡ r) (p : IsPrefix s t) (raw : RawRequest) (before now : ℕ) where
   -- the pieces with that of the request, whatever was written
   piece_of : {E : Type 0} (mid new : Option (List ℕ)) (result : Result (Unit {0}) E) (n : List BoardEntry) (m : List Entry) (c : List ChunkCopy) → IsAnswered d raw mid new result q t before now n m c → Piece
   piece_of mid new result n m c h = record { raw = raw; told_is = h.told_is; made = m; copies = c; noted = n; reply = h.reply }
 
-  is_piece : {E : Type 0} (mid new : Option (List ℕ)) (result : Result (Unit {0}) E) (n : List BoardEntry) (m : List Entry) (c : List ChunkCopy) (h : IsAnswered d raw mid new result q t before now n m c) → IsCalledBy b r t raw h.told_is m c n
-  is_piece mid new result n m c h = subst (λ x. IsCalledBy b x t raw h.told_is m c n) e (subst (λ (x : Bool). IsCalledBy x q t raw h.told_is m c n) f h.called)
+  is_piece : {E : Type 0} (mid new : Option (List ℕ)) (result : Result (Unit {0}) E) (n : List BoardEntry) (m : List Entry) (c : List ChunkCopy) (h : IsAnswered d raw mid new result q t before now n m c) → IsHeard b r t raw h.told_is m c n
+  is_piece mid new result n m c h = subst (λ x. IsHeard b x t raw h.told_is m c n) e (subst (λ (x : Offers). IsHeard x q t raw h.told_is m c n) f h.called)
 
   more_pieces : {E : Type 0} (mid new : Option (List ℕ)) (result : Result (Unit {0}) E) (ps : List Piece) (na : List BoardEntry) (a : List Entry) (ca : List ChunkCopy) (nb : List BoardEntry) (o : List Entry) (co : List ChunkCopy) → ArePieces b r s ps na a ca
       → (h : IsAnswered d raw mid new result q t before now nb o co) → ArePieces b r t (ps ++ piece_of mid new result nb o co h ∷ []) (na ++ nb) (a ++ o) (ca ++ co)
@@ -165,27 +175,27 @@ module _ (b d : Bool) (f : d ≡ b) (r q : Rules) (s t : List Event) (e : q ≡ 
 raws_more : (raw : RawRequest) (raws : List RawRequest) (ps : List Piece) (x : Piece) → raws ≡ raws_of ps → x.raw ≡ raw → raws ++ raw ∷ [] ≡ raws_of (ps ++ x ∷ [])
 raws_more raw raws ps x h k = ap (λ y. y ++ raw ∷ []) h ∙ (ap (λ (y : RawRequest). raws_of ps ++ y ∷ []) (sym k) ∙ sym (map-append (λ y. y.raw) ps (x ∷ [])))
 
-module _ (v u w : Known) (x y z : Option BoardKnown) (k j l : Copies) (old mid new : Option (List ℕ)) (raws : List RawRequest) (raw : RawRequest) (so_far : HasSoFar v u x y k j old mid raws) where
+module _ (d : Bool) (v u w : Known) (x y z : Option BoardKnown) (k j l : Copies) (old mid new : Option (List ℕ)) (raws : List RawRequest) (raw : RawRequest) (so_far : HasSoFar d v u x y k j old mid raws) where
   -- what was made so far, and for the request, with the piece of the request
   served_so : {E : Type 0} (r : Result (Unit {0}) E) (S : List BoardEntry → List Entry → List ChunkCopy → Type 0)
-      → ((ps : List Piece) (p : Piece) (n : List BoardEntry) (m : List Entry) (c : List ChunkCopy) → ArePieces (is_some x) v.rules w.seen (ps ++ p ∷ []) n m c → AreBlamed v.blamed w.blamed (ps ++ p ∷ []) → raws ++ raw ∷ [] ≡ raws_of (ps ++ p ∷ []) → mid ≡ appended old (replies_of ps)
+      → ((ps : List Piece) (p : Piece) (n : List BoardEntry) (m : List Entry) (c : List ChunkCopy) → ArePieces (offers d x) v.rules w.seen (ps ++ p ∷ []) n m c → AreBlamed v.blamed w.blamed (ps ++ p ∷ []) → raws ++ raw ∷ [] ≡ raws_of (ps ++ p ∷ []) → mid ≡ appended old (replies_of ps)
       → IsWritten mid new r p.reply → S n m c)
-      → HasAnswered u w y z j l raw mid new r → HasMadeBoth S v w x z k l
+      → HasAnswered d u w y z j l raw mid new r → HasMadeBoth S v w x z k l
   unfolding piece_of
   served_so r S f h =
-      let same = board_lasts x y so_far.noted so_far.board in
-      made_behind (AreSoFar (is_some x) old mid raws v.rules u.seen v.blamed u.blamed) (IsAnswered (is_some y) raw mid new r u.rules w.seen u.blamed w.blamed) S v u w x y z k j l
-      (λ na a ca nb b cb d i.
-      let p : Piece = piece_of (is_some x) (is_some y) same v.rules u.rules u.seen w.seen so_far.made.rules h.made.longer raw u.blamed w.blamed mid new r nb b cb i in
-      f d.pieces p (na ++ nb) (a ++ b) (ca ++ cb)
-      (more_pieces (is_some x) (is_some y) same v.rules u.rules u.seen w.seen so_far.made.rules h.made.longer raw u.blamed w.blamed mid new r d.pieces na a ca nb b cb d.are i)
-      (blamed_more v.blamed u.blamed w.blamed d.pieces p d.blamed i.blamed)
-      (raws_more raw raws d.pieces p d.raws_are refl)
-      d.out i.written) so_far h
+      let same : offers d y ≡ offers d x = ap (λ (o : Bool). record { reviews = o; shutdown = d }) (board_lasts x y so_far.noted so_far.board) in
+      made_behind (AreSoFar (offers d x) old mid raws v.rules u.seen v.blamed u.blamed) (IsAnswered (offers d y) raw mid new r u.rules w.seen u.blamed w.blamed) S v u w x y z k j l
+      (λ na a ca nb b cb g i.
+      let p : Piece = piece_of (offers d x) (offers d y) same v.rules u.rules u.seen w.seen so_far.made.rules h.made.longer raw u.blamed w.blamed mid new r nb b cb i in
+      f g.pieces p (na ++ nb) (a ++ b) (ca ++ cb)
+      (more_pieces (offers d x) (offers d y) same v.rules u.rules u.seen w.seen so_far.made.rules h.made.longer raw u.blamed w.blamed mid new r g.pieces na a ca nb b cb g.are i)
+      (blamed_more v.blamed u.blamed w.blamed g.pieces p g.blamed i.blamed)
+      (raws_more raw raws g.pieces p g.raws_are refl)
+      g.out i.written) so_far h
 
   -- its reply is out
-  pub served_more : {E : Type 0} (done : Unit {0}) → HasAnswered {E = E} u w y z j l raw mid new (Ok done) → HasSoFar v w x z k l old new (raws ++ raw ∷ [])
-  served_more {E = E} done h = served_so {E = E} (Ok done) (AreSoFar (is_some x) old new (raws ++ raw ∷ []) v.rules w.seen v.blamed w.blamed)
+  pub served_more : {E : Type 0} (done : Unit {0}) → HasAnswered {E = E} d u w y z j l raw mid new (Ok done) → HasSoFar d v w x z k l old new (raws ++ raw ∷ [])
+  served_more {E = E} done h = served_so {E = E} (Ok done) (AreSoFar (offers d x) old new (raws ++ raw ∷ []) v.rules w.seen v.blamed w.blamed)
       (λ ps p n m c are blamed raws_are out written. record {
         pieces = ps ++ p ∷ [];
         are = are;
@@ -195,8 +205,8 @@ module _ (v u w : Known) (x y z : Option BoardKnown) (k j l : Copies) (old mid n
       }) h
 
   -- the write failed within it
-  pub served_cut : {E : Type 0} (left : Option (List ℕ)) (f : E) → IfSome left (λ s. Begins s (raws ++ raw ∷ [])) → HasAnswered u w y z j l raw mid new (Err f) → HasServed v w x z k l left old new end.WriteFault
-  served_cut left f begins h = served_so (Err f) (IsServed (is_some x) left old new v.rules w.seen v.blamed w.blamed end.WriteFault)
+  pub served_cut : {E : Type 0} (left : Option (List ℕ)) (f : E) → IfSome left (λ s. Begins s (raws ++ raw ∷ [])) → HasAnswered d u w y z j l raw mid new (Err f) → HasServed d v w x z k l left old new end.WriteFault
+  served_cut left f begins h = served_so (Err f) (IsServed (offers d x) left old new v.rules w.seen v.blamed w.blamed end.WriteFault)
       (λ ps p n m c are blamed raws_are out written. record {
         pieces = ps ++ p ∷ [];
         are = are;
@@ -208,7 +218,8 @@ module _ (v u w : Known) (x y z : Option BoardKnown) (k j l : Copies) (old mid n
           subst (λ o. IfSome left (λ s. Begins s o)) raws_are begins,
           cut_behind old mid new (replies_of ps) p.reply out written,
         );
-        given = given_only (is_some x) v.rules w.seen (ps ++ p ∷ []) n m c are;
+        given = given_only (offers d x) v.rules w.seen (ps ++ p ∷ []) n m c are;
+        shut = λ q. absurd cc;
       }) h
 
 -- the first requests of a stream, where others may follow, and where none does
@@ -229,14 +240,27 @@ begins raws n m raw whole before after leads same is told false c =
     (leads_end (raws ++ raw ∷ []) m stop.Memory whole after on (always after))
 
 -- the last request closes the link
-pub served_closed : (v w : Known) (x y : Option BoardKnown) (k l : Copies) (left old new : Option (List ℕ)) (raws : List RawRequest) → HasSoFar v w x y k l old new raws → IfSome left (λ s. Requests 0 s raws closed) → HasServed v w x y k l left old new end.Closed
-served_closed v w x y k l left old new raws h c = both_so (AreSoFar (is_some x) old new raws v.rules w.seen v.blamed w.blamed) (IsServed (is_some x) left old new v.rules w.seen v.blamed w.blamed end.Closed) v w x y k l
+pub served_closed : (d : Bool) (v w : Known) (x y : Option BoardKnown) (k l : Copies) (left old new : Option (List ℕ)) (raws : List RawRequest) → HasSoFar d v w x y k l old new raws → IfSome left (λ s. Requests 0 s raws closed) → HasServed d v w x y k l left old new end.Closed
+served_closed d v w x y k l left old new raws h c = both_so (AreSoFar (offers d x) old new raws v.rules w.seen v.blamed w.blamed) (IsServed (offers d x) left old new v.rules w.seen v.blamed w.blamed end.Closed) v w x y k l
     (λ n m o i. record {
       pieces = i.pieces;
       are = i.are;
       blamed = i.blamed;
       ended = (subst (λ y. IfSome left (λ s. Requests 0 s y closed)) i.raws_are c, i.out);
-      given = given_only (is_some x) v.rules w.seen i.pieces n m o i.are;
+      given = given_only (offers d x) v.rules w.seen i.pieces n m o i.are;
+      shut = λ q. absurd cc;
+    }) h
+
+-- the service shuts down behind the last request
+pub served_shut : (d : Bool) (v w : Known) (x y : Option BoardKnown) (k l : Copies) (left old new : Option (List ℕ)) (raws : List RawRequest) → d ≡ true → HasSoFar d v w x y k l old new raws → IfSome left (λ s. Begins s raws) → HasServed d v w x y k l left old new end.ShutDown
+served_shut d v w x y k l left old new raws offered h c = both_so (AreSoFar (offers d x) old new raws v.rules w.seen v.blamed w.blamed) (IsServed (offers d x) left old new v.rules w.seen v.blamed w.blamed end.ShutDown) v w x y k l
+    (λ n m o i. record {
+      pieces = i.pieces;
+      are = i.are;
+      blamed = i.blamed;
+      ended = (subst (λ y. IfSome left (λ s. Begins s y)) i.raws_are c, i.out);
+      given = given_only (offers d x) v.rules w.seen i.pieces n m o i.are;
+      shut = λ q. offered;
     }) h
 
 -- there is no further request
@@ -257,21 +281,22 @@ refused_so left old mid new pieces why e stops out (inl h) =
 refused_so left old mid new pieces why e stops out (inr h) =
     subst (λ x. HasEnded left old new pieces x) (sym h.0) (ended_by left old new pieces why (h.1.0, record { requests = stops; reply_is = h.1.1 }, told_both old mid new (replies_of pieces) h.1.0 out h.1.2))
 
-pub served_refused : (v w : Known) (x y : Option BoardKnown) (k l : Copies) (left old mid new : Option (List ℕ)) (raws : List RawRequest) (why : Stop) (e : LinkEnd) → HasSoFar v w x y k l old mid raws → IfSome left (λ s. Requests 0 s raws (stopped why)) → IsRefused mid new why e
-    → HasServed v w x y k l left old new e
-served_refused v w x y k l left old mid new raws why e h stops is = both_so (AreSoFar (is_some x) old mid raws v.rules w.seen v.blamed w.blamed) (IsServed (is_some x) left old new v.rules w.seen v.blamed w.blamed e) v w x y k l
+pub served_refused : (d : Bool) (v w : Known) (x y : Option BoardKnown) (k l : Copies) (left old mid new : Option (List ℕ)) (raws : List RawRequest) (why : Stop) (e : LinkEnd) → HasSoFar d v w x y k l old mid raws → IfSome left (λ s. Requests 0 s raws (stopped why)) → IsRefused mid new why e
+    → HasServed d v w x y k l left old new e
+served_refused d v w x y k l left old mid new raws why e h stops is = both_so (AreSoFar (offers d x) old mid raws v.rules w.seen v.blamed w.blamed) (IsServed (offers d x) left old new v.rules w.seen v.blamed w.blamed e) v w x y k l
     (λ n m o i. record {
       pieces = i.pieces;
       are = i.are;
       blamed = i.blamed;
       ended = refused_so left old mid new i.pieces why e (subst (λ y. IfSome left (λ s. Requests 0 s y (stopped why))) i.raws_are stops) i.out is;
-      given = given_only (is_some x) v.rules w.seen i.pieces n m o i.are;
+      given = given_only (offers d x) v.rules w.seen i.pieces n m o i.are;
+      shut = λ q. absurd (never_shut mid new why e is q);
     }) h
 
 -- nothing was read yet
-pub none_served : (v : Known) (x : Option BoardKnown) (k : Copies) (old : Option (List ℕ)) → HasSoFar v v x x k k old old []
-none_served v x k old = made_alone (AreSoFar (is_some x) old old [] v.rules v.seen v.blamed v.blamed) v v x k k
-    (nothing_made (AreSoFar (is_some x) old old [] v.rules v.seen v.blamed v.blamed []) v k
+pub none_served : (d : Bool) (v : Known) (x : Option BoardKnown) (k : Copies) (old : Option (List ℕ)) → HasSoFar d v v x x k k old old []
+none_served d v x k old = made_alone (AreSoFar (offers d x) old old [] v.rules v.seen v.blamed v.blamed) v v x k k
+    (nothing_made (AreSoFar (offers d x) old old [] v.rules v.seen v.blamed v.blamed []) v k
     (record { pieces = []; are = record { are = tt; noted_is = refl; made_is = refl; copies_are = refl }; blamed = refl; raws_are = refl; out = nothing_more old }))
 
 pub leads_first : (left : Option (List ℕ)) → Leads left [] 0 (stream_of [] left)
@@ -279,24 +304,27 @@ leads_first None = tt
 leads_first (Some s) = λ more end h. h
 
 -- there was no memory to begin
-pub unserved : (v : Known) (x : Option BoardKnown) (k : Copies) (left old : Option (List ℕ)) → HasServed v v x x k k left old old end.Memory
-unserved v x k left old = served_refused v v x x k k left old old old [] stop.Memory end.Memory (none_served v x k old) (always left) (refused_silent old stop.Memory end.Memory refl refl)
+pub unserved : (d : Bool) (v : Known) (x : Option BoardKnown) (k : Copies) (left old : Option (List ℕ)) → HasServed d v v x x k k left old old end.Memory
+unserved d v x k left old = served_refused d v v x x k k left old old old [] stop.Memory end.Memory (none_served d v x k old) (always left) (refused_silent old stop.Memory end.Memory refl refl)
 
 -- from turn to turn: one request more is answered, or the write of its reply fails
-module _ (v u w : Known) (x y z : Option BoardKnown) (k j l : Copies) (left old before mid after new : Option (List ℕ)) (n : ℕ) (raw : RawRequest) (so_far : IsServing left old before mid n v u x y k j) (is : IfSome before (λ s. IfSome after (IsRequest (is_last n) s raw))) (told_on : IsSome before → IsSome after) where
-  answered : {E : Type 0} (r : Result (Unit {0}) E) → false ≡ is_err r → HasAnswered u w y z j l raw mid new r → HasSoFar v w x z k l old new (so_far.raws ++ raw ∷ [])
-  answered (Ok done) e h = served_more v u w x y z k j l old mid new so_far.raws raw so_far.did done h
+module _ (d : Bool) (v u w : Known) (x y z : Option BoardKnown) (k j l : Copies) (left old before mid after new : Option (List ℕ)) (n : ℕ) (raw : RawRequest) (so_far : IsServing d left old before mid n v u x y k j) (is : IfSome before (λ s. IfSome after (IsRequest (is_last n) s raw))) (told_on : IsSome before → IsSome after) where
+  answered : {E : Type 0} (r : Result (Unit {0}) E) → false ≡ is_err r → HasAnswered d u w y z j l raw mid new r → HasSoFar d v w x z k l old new (so_far.raws ++ raw ∷ [])
+  answered (Ok done) e h = served_more d v u w x y z k j l old mid new so_far.raws raw so_far.did done h
   answered (Err f) e h = absurd cc
 
-  pub serving_more : {E : Type 0} (m : ℕ) (r : Result (Unit {0}) E) → false ≡ is_err r → m ≡ suc n → HasAnswered u w y z j l raw mid new r → raw.closes ≡ false → IsServing left old after new m v w x z k l
+  pub serving_more : {E : Type 0} (m : ℕ) (r : Result (Unit {0}) E) → false ≡ is_err r → m ≡ suc n → HasAnswered d u w y z j l raw mid new r → raw.closes ≡ false → IsServing d left old after new m v w x z k l
   serving_more m r e same h goes = record { raws = so_far.raws ++ raw ∷ []; leads = leads_on so_far.raws n raw left before after m same so_far.leads is told_on goes; did = answered r e h }
 
-  pub serving_closed : {E : Type 0} (r : Result (Unit {0}) E) → false ≡ is_err r → HasAnswered u w y z j l raw mid new r → raw.closes ≡ true → HasServed v w x z k l left old new end.Closed
-  serving_closed r e h shut = served_closed v w x z k l left old new (so_far.raws ++ raw ∷ []) (answered r e h) (leads_closed so_far.raws n raw left before after so_far.leads is told_on shut)
+  pub serving_closed : {E : Type 0} (r : Result (Unit {0}) E) → false ≡ is_err r → HasAnswered d u w y z j l raw mid new r → raw.closes ≡ true → HasServed d v w x z k l left old new end.Closed
+  serving_closed r e h shut = served_closed d v w x z k l left old new (so_far.raws ++ raw ∷ []) (answered r e h) (leads_closed so_far.raws n raw left before after so_far.leads is told_on shut)
 
-  pub serving_cut : {E : Type 0} (r : Result (Unit {0}) E) → true ≡ is_err r → HasAnswered u w y z j l raw mid new r → HasServed v w x z k l left old new end.WriteFault
+  pub serving_shut : {E : Type 0} (r : Result (Unit {0}) E) → false ≡ is_err r → HasAnswered d u w y z j l raw mid new r → raw.closes ≡ false → d ≡ true → HasServed d v w x z k l left old new end.ShutDown
+  serving_shut r e h goes offered = served_shut d v w x z k l left old new (so_far.raws ++ raw ∷ []) offered (answered r e h) (begins so_far.raws n (suc n) raw left before after so_far.leads refl is told_on false goes)
+
+  pub serving_cut : {E : Type 0} (r : Result (Unit {0}) E) → true ≡ is_err r → HasAnswered d u w y z j l raw mid new r → HasServed d v w x z k l left old new end.WriteFault
   serving_cut (Ok done) e h = absurd cc
-  serving_cut (Err f) e h = served_cut v u w x y z k j l old mid new so_far.raws raw so_far.did left f (begins so_far.raws n (suc n) raw left before after so_far.leads refl is told_on raw.closes refl) h
+  serving_cut (Err f) e h = served_cut d v u w x y z k j l old mid new so_far.raws raw so_far.did left f (begins so_far.raws n (suc n) raw left before after so_far.leads refl is told_on raw.closes refl) h
 
 -- the write failed, so the count has risen
 pub risen_cut : {E : Type 0} (first before now : ℕ) (r : Result (Unit {0}) E) → true ≡ is_err r → first ≤ before → OnErr r (HasRisen before now) → HasRisen first now
@@ -304,5 +332,5 @@ risen_cut first before now (Ok x) e p h = absurd cc
 risen_cut first before now (Err f) e p h = omega (arith, p, h)
 
 -- there is none
-pub serving_refused : (v w : Known) (x y : Option BoardKnown) (k l : Copies) (left old before mid new : Option (List ℕ)) (n : ℕ) (why : Stop) (e : LinkEnd) → IsServing left old before mid n v w x y k l → IfSome before (λ s. StopsBy s why) → IsRefused mid new why e → HasServed v w x y k l left old new e
-serving_refused v w x y k l left old before mid new n why e so_far stops is = served_refused v w x y k l left old mid new so_far.raws why e so_far.did (leads_end so_far.raws n why left before so_far.leads stops) is
+pub serving_refused : (d : Bool) (v w : Known) (x y : Option BoardKnown) (k l : Copies) (left old before mid new : Option (List ℕ)) (n : ℕ) (why : Stop) (e : LinkEnd) → IsServing d left old before mid n v w x y k l → IfSome before (λ s. StopsBy s why) → IsRefused mid new why e → HasServed d v w x y k l left old new e
+serving_refused d v w x y k l left old before mid new n why e so_far stops is = served_refused d v w x y k l left old mid new so_far.raws why e so_far.did (leads_end so_far.raws n why left before so_far.leads stops) is

@@ -1,5 +1,5 @@
 -- How the requests of a link were answered, and how it ended.
-use Rattle.std.specs.Prelude.{◌≡◌, ◌≤◌, ℕ, Bool, true, false, List, [], ◌∷◌, ◌++◌, ◌⊎◌, length, take, Option, Some, None, IfSome, is_some, Result, Ok, Err}
+use Rattle.std.specs.Prelude.{◌≡◌, ◌≤◌, ℕ, Bool, true, false, List, [], ◌∷◌, ◌++◌, ◌⊎◌, length, take, Option, Some, None, IfSome, Result, Ok, Err}
 use Rattle.cc_base.specs.Outside.{HasRisen, IsPrefixOut, appended}
 use Rattle.cluster_gate.specs.declared.copier.ChunkCopy.{ChunkCopy}
 use Rattle.core_terms.specs.declared.events.Event.{Event}
@@ -15,7 +15,8 @@ use Rattle.rest_replies.specs.declared.told.Told.{Told}
 use Rattle.rest_replies.specs.declared.told.Told.TheVariants as told
 use Rattle.review_board.specs.Asked.{BoardEntry, BoardKnown}
 use Rattle.rest_session.specs.Pieces.{ArePieces, IsReply, Piece, asks_head, raws_of, replies_of}
-use Rattle.rest_session.specs.Reviewed.{HasMadeBoth, IsCalledBy}
+use Rattle.rest_session.specs.Heard.{IsHeard, Offers, offers}
+use Rattle.rest_session.specs.Reviewed.{HasMadeBoth}
 use Rattle.rest_session.specs.Starts.{StartsAsGiven}
 use Rattle.rest_session.specs.declared.session.LinkEnd.{LinkEnd}
 use Rattle.rest_session.specs.declared.session.LinkEnd.TheVariants as end
@@ -69,27 +70,30 @@ pub record IsStopped (left : Option (List ℕ)) (raws : List RawRequest) (why : 
 abbrev pub IsCutIn : Option (List ℕ) → Option (List ℕ) → List ℕ → List ℕ → Type 0
 IsCutIn old new whole last = (n : ℕ) × (n ≤ length last) × (new ≡ appended old (whole ++ take n last))
 
--- the end of a link, by what was read of its stream and what was written: a request that closes; a write that failed in the reply to the
--- last request, behind which none was carried out, or in that to the reason why there was none; or this reason
+-- the end of a link, by what was read of its stream and what was written: a request that closes; a service that shuts down behind the last
+-- request; a write that failed in the reply to the last request, behind which none was carried out, or in that to the reason why there was
+-- none; or this reason
 abbrev pub HasEnded : Option (List ℕ) → Option (List ℕ) → Option (List ℕ) → List Piece → LinkEnd → Type 0
 HasEnded left old new pieces end.Closed = IfSome left (λ stream. Requests 0 stream (raws_of pieces) closed) × (new ≡ appended old (replies_of pieces))
+HasEnded left old new pieces end.ShutDown = IfSome left (λ stream. Begins stream (raws_of pieces)) × (new ≡ appended old (replies_of pieces))
 HasEnded left old new pieces end.WriteFault =
     ((front : List Piece) × (p : Piece) × (pieces ≡ front ++ p ∷ []) × IfSome left (λ stream. Begins stream (raws_of pieces)) × IsCutIn old new (replies_of front) p.reply)
     ⊎ ((why : Stop) × (reply : List ℕ) × IsStopped left (raws_of pieces) why reply × IsCutIn old new (replies_of pieces) reply)
 HasEnded left old new pieces e = (why : Stop) × (end_of why ≡ e) × ((reply : List ℕ) × IsStopped left (raws_of pieces) why reply × (new ≡ appended old (replies_of pieces ++ reply)))
 
 -- the pieces of a link that ended so, with the number of the admin's last fault before and after them; where requests are reviewed, it
--- started what was given out to it
-pub record IsServed (reviews : Bool) (left old new : Option (List ℕ)) (rules : Rules) (seen : List Event) (before now : ℕ) (e : LinkEnd) (noted : List BoardEntry) (made : List Entry) (copies : List ChunkCopy) : Type 0 where
+-- started what was given out to it; and it is shut down only where a client may ask so
+pub record IsServed (o : Offers) (left old new : Option (List ℕ)) (rules : Rules) (seen : List Event) (before now : ℕ) (e : LinkEnd) (noted : List BoardEntry) (made : List Entry) (copies : List ChunkCopy) : Type 0 where
   pub pieces : List Piece
-  pub are : ArePieces reviews rules seen pieces noted made copies
+  pub are : ArePieces o rules seen pieces noted made copies
   pub blamed : AreBlamed before now pieces
   pub ended : HasEnded left old new pieces e
-  pub given : reviews ≡ true → StartsAsGiven pieces noted made
+  pub given : o.reviews ≡ true → StartsAsGiven pieces noted made
+  pub shut : e ≡ end.ShutDown → o.shutdown ≡ true
 
 -- the requests of a link were answered, each by its own entries, up to its end
-abbrev pub HasServed : Known → Known → Option BoardKnown → Option BoardKnown → Copies → Copies → Option (List ℕ) → Option (List ℕ) → Option (List ℕ) → LinkEnd → Type 0
-HasServed v w x y k l left old new e = HasMadeBoth (IsServed (is_some x) left old new v.rules w.seen v.blamed w.blamed e) v w x y k l
+abbrev pub HasServed : Bool → Known → Known → Option BoardKnown → Option BoardKnown → Copies → Copies → Option (List ℕ) → Option (List ℕ) → Option (List ℕ) → LinkEnd → Type 0
+HasServed d v w x y k l left old new e = HasMadeBoth (IsServed (offers d x) left old new v.rules w.seen v.blamed w.blamed e) v w x y k l
 
 -- a reply was written, whole or, before an error, a prefix of it
 abbrev pub IsWritten : {E : Type 0} → Option (List ℕ) → Option (List ℕ) → Result (Unit {0}) E → List ℕ → Type 0
@@ -97,16 +101,16 @@ IsWritten old new (Ok done) reply = new ≡ appended old reply
 IsWritten old new (Err fault) reply = IsPrefixOut old new reply
 
 -- one request was answered
-pub record IsAnswered {E : Type 0} (reviews : Bool) (raw : RawRequest) (old new : Option (List ℕ)) (result : Result (Unit {0}) E) (rules : Rules) (seen : List Event) (before now : ℕ) (noted : List BoardEntry) (made : List Entry) (copies : List ChunkCopy) : Type 0 where
+pub record IsAnswered {E : Type 0} (o : Offers) (raw : RawRequest) (old new : Option (List ℕ)) (result : Result (Unit {0}) E) (rules : Rules) (seen : List Event) (before now : ℕ) (noted : List BoardEntry) (made : List Entry) (copies : List ChunkCopy) : Type 0 where
   pub told_is : Told
   pub reply : List ℕ
   pub blamed : IsBlamed (fault_told told_is) before now
-  pub called : IsCalledBy reviews rules seen raw told_is made copies noted
+  pub called : IsHeard o rules seen raw told_is made copies noted
   pub reply_is : IsReply (asks_head raw) told_is reply
   pub written : IsWritten old new result reply
 
-abbrev pub HasAnswered : {E : Type 0} → Known → Known → Option BoardKnown → Option BoardKnown → Copies → Copies → RawRequest → Option (List ℕ) → Option (List ℕ) → Result (Unit {0}) E → Type 0
-HasAnswered v w x y k l raw old new result = HasMadeBoth (IsAnswered (is_some x) raw old new result v.rules w.seen v.blamed w.blamed) v w x y k l
+abbrev pub HasAnswered : {E : Type 0} → Bool → Known → Known → Option BoardKnown → Option BoardKnown → Copies → Copies → RawRequest → Option (List ℕ) → Option (List ℕ) → Result (Unit {0}) E → Type 0
+HasAnswered d v w x y k l raw old new result = HasMadeBoth (IsAnswered (offers d x) raw old new result v.rules w.seen v.blamed w.blamed) v w x y k l
 
 -- a reply to what is told was written
 abbrev pub IsReplied : {E : Type 0} → Bool → Told → Option (List ℕ) → Option (List ℕ) → Result (Unit {0}) E → Type 0

@@ -20,7 +20,7 @@ HasNoFix made = AllByRecursion (λ x. is_heal x.event ≡ false) made
 
 -- the entries of a request that asks nothing of the detector have none
 abbrev pub OnlyDetectsHeal : Type 0
-OnlyDetectsHeal = (rules : Rules) (seen : List Event) (p : Piece) → IsPiece false rules seen p → ((now alert heal : ℕ) → meaning p.raw ≡ Ok (call.Detect now alert heal) → ⊥) → HasNoFix p.made
+OnlyDetectsHeal = (shutdown : Bool) (rules : Rules) (seen : List Event) (p : Piece) → IsPiece (record { reviews = false; shutdown = shutdown }) rules seen p → ((now alert heal : ℕ) → meaning p.raw ≡ Ok (call.Detect now alert heal) → ⊥) → HasNoFix p.made
 
 -- nor have those of a round
 abbrev pub RoundsHealNothing : Type 0

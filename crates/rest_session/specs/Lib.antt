@@ -2,6 +2,7 @@ pub mod Calls
 pub mod Reviewed
 pub mod Pieces
 pub mod Heals
+pub mod Heard
 pub mod Starts
 pub mod Answered
 pub mod Sessions

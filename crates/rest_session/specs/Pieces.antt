@@ -11,7 +11,7 @@ use Rattle.rest_replies.specs.Answers.{reply_of}
 use Rattle.rest_replies.specs.declared.told.Told.{Told}
 use Rattle.rest_replies.specs.declared.told.Told.TheVariants as told
 use Rattle.review_board.specs.Asked.{BoardEntry}
-use Rattle.rest_session.specs.Reviewed.{IsCalledBy}
+use Rattle.rest_session.specs.Heard.{IsHeard, Offers}
 
 -- the reply that tells want of memory
 abbrev pub memory_reply : List ℕ
@@ -51,8 +51,8 @@ pub record Piece : Type 0 where
   pub noted : List BoardEntry
   pub reply : List ℕ
 
-abbrev pub IsPiece : Bool → Rules → List Event → Piece → Type 0
-IsPiece reviews rules seen p = IsCalledBy reviews rules seen p.raw p.told_is p.made p.copies p.noted × IsReply (asks_head p.raw) p.told_is p.reply
+abbrev pub IsPiece : Offers → Rules → List Event → Piece → Type 0
+IsPiece o rules seen p = IsHeard o rules seen p.raw p.told_is p.made p.copies p.noted × IsReply (asks_head p.raw) p.told_is p.reply
 
 -- what the pieces have, one after another
 abbrev pub in_order : {A : Type 0} → (Piece → List A) → List Piece → List A
@@ -68,8 +68,8 @@ abbrev pub replies_of : List Piece → List ℕ
 replies_of pieces = in_order (λ p. p.reply) pieces
 
 -- the own entries, copies and own entries on the board fall into consecutive pieces, one for each request
-pub record ArePieces (reviews : Bool) (rules : Rules) (seen : List Event) (pieces : List Piece) (noted : List BoardEntry) (made : List Entry) (copies : List ChunkCopy) : Type 0 where
-  pub are : AllByRecursion (IsPiece reviews rules seen) pieces
+pub record ArePieces (o : Offers) (rules : Rules) (seen : List Event) (pieces : List Piece) (noted : List BoardEntry) (made : List Entry) (copies : List ChunkCopy) : Type 0 where
+  pub are : AllByRecursion (IsPiece o rules seen) pieces
   pub noted_is : noted ≡ in_order (λ p. p.noted) pieces
   pub made_is : made ≡ in_order (λ p. p.made) pieces
   pub copies_are : copies ≡ in_order (λ p. p.copies) pieces

@@ -5,6 +5,7 @@ ghost use Rattle.mover_rounds.specs.Made.{copier_of};
 ghost use Rattle.rest_session.specs.Answered.{HasServed, IsRefused, end_of};
 
 use crate::answer::{answer, write_reply};
+use crate::shutdown::Shutdown;
 use cc_base::Link;
 use cluster_gate::Copier;
 use mover_rounds::Asker;
@@ -22,6 +23,8 @@ pub enum LinkEnd {
     Ended,
     /// A request closed the link.
     Closed,
+    /// The service was asked to shut down, by this link or another.
+    ShutDown,
     /// The input ended inside a request.
     Cut,
     /// A request couldn't be framed, and was told why.
@@ -67,12 +70,13 @@ fn refuse<L: Link>(alloc: Global, link: &mut L, why: Stop) -> LinkEnd
 }
 
 // Answers requests until the link ends.
-fn serve_with<X: Asker, V: Reviewer, K: Copier, L: Link, R: Threads + Sync>(
+fn serve_with<X: Asker, V: Reviewer, K: Copier, D: Shutdown, L: Link, R: Threads + Sync>(
     rt: &R,
     alloc: Global,
     asker: &mut X,
     reviewer: &mut V,
     copier: &mut K,
+    shutdown: &D,
     routes: &Routes,
     mut reader: Reader,
     link: &mut L,
@@ -82,7 +86,7 @@ fn serve_with<X: Asker, V: Reviewer, K: Copier, L: Link, R: Threads + Sync>(
     // What was asked, and what the link was answered.
     ensures since { X.since asker.old asker.new }
     ensures since_board { V.since reviewer.old reviewer.new }
-    ensures served { HasServed (X.known asker.old) (X.known asker.new)
+    ensures served { HasServed (D.offered shutdown.now) (X.known asker.old) (X.known asker.new)
         (V.board reviewer.old) (V.board reviewer.new)
         (copier_of K.copies K.faults copier.old) (copier_of K.copies K.faults copier.new)
         (L.left link.old) (L.written link.old) (L.written link.new) result }
@@ -97,11 +101,18 @@ fn serve_with<X: Asker, V: Reviewer, K: Copier, L: Link, R: Threads + Sync>(
     loop {
         match reader.next(alloc, link).into_result() {
             Ok(raw) => {
-                if answer(rt, alloc, asker, reviewer, copier, routes, &raw, link).is_err() {
+                if answer(
+                    rt, alloc, asker, reviewer, copier, shutdown, routes, &raw, link,
+                )
+                .is_err()
+                {
                     return LinkEnd::WriteFault;
                 }
                 if raw.closes {
                     return LinkEnd::Closed;
+                }
+                if shutdown.has_begun() {
+                    return LinkEnd::ShutDown;
                 }
             }
             Err(why) => return refuse(alloc, link, why),
@@ -110,18 +121,19 @@ fn serve_with<X: Asker, V: Reviewer, K: Copier, L: Link, R: Threads + Sync>(
 }
 
 /// Answers the requests of a link in their order, each by the reply to its own entries, until the
-/// link ends.
-pub fn serve<X: Asker, V: Reviewer, K: Copier, L: Link, R: Threads + Sync>(
+/// link ends, or the service was asked to shut down.
+pub fn serve<X: Asker, V: Reviewer, K: Copier, D: Shutdown, L: Link, R: Threads + Sync>(
     rt: &R,
     alloc: Global,
     asker: &mut X,
     reviewer: &mut V,
     copier: &mut K,
+    shutdown: &D,
     link: &mut L,
 ) -> LinkEnd
     ensures since { X.since asker.old asker.new }
     ensures since_board { V.since reviewer.old reviewer.new }
-    ensures served { HasServed (X.known asker.old) (X.known asker.new)
+    ensures served { HasServed (D.offered shutdown.now) (X.known asker.old) (X.known asker.new)
         (V.board reviewer.old) (V.board reviewer.new)
         (copier_of K.copies K.faults copier.old) (copier_of K.copies K.faults copier.new)
         (L.left link.old) (L.written link.old) (L.written link.new) result }
@@ -138,5 +150,7 @@ pub fn serve<X: Asker, V: Reviewer, K: Copier, L: Link, R: Threads + Sync>(
     let Ok(reader) = Reader::new(alloc) else {
         return LinkEnd::Memory;
     };
-    serve_with(rt, alloc, asker, reviewer, copier, &routes, reader, link)
+    serve_with(
+        rt, alloc, asker, reviewer, copier, shutdown, &routes, reader, link,
+    )
 }

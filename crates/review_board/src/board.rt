@@ -7,13 +7,14 @@ use crate::reviews::Reviews;
 use plan_terms::Memory;
 use std::alloc::Global;
 use std::marker::Model;
+use turn_book::Journal;
 
 /// A board, which contracts see as its journal: the events that it took, in order.
 #[derive(Drop)]
 pub struct Board {
     alloc: Global,
     reviews: Reviews,
-    journal: Vec<BoardEvent>,
+    journal: Journal<BoardEvent>,
 }
 
 impl Model for Board {
@@ -23,10 +24,10 @@ impl Model for Board {
 
     ghost Value = { List BoardEvent };
 
-    ghost view = { λ b. b.journal.items };
+    ghost view = { λ b. b.journal.events };
 
-    ghost invariant = { λ b. (b.reviews ≡ reviews_after b.journal.items)
-        × (length b.journal.items < 2 ^ 63) };
+    ghost invariant = { λ b. (b.reviews ≡ reviews_after b.journal.events)
+        × (length b.journal.events < 2 ^ 63) };
 }
 
 impl Board {
@@ -37,7 +38,7 @@ impl Board {
         Board {
             alloc,
             reviews: Reviews::new(alloc),
-            journal: Vec::new(alloc),
+            journal: Journal::new(alloc),
         }
     }
 
@@ -57,18 +58,18 @@ impl Board {
         }
         match self.reviews.answer(self.alloc, &event) {
             Ok(reply) => {
-                self.journal.push_reserved(event);
+                self.journal.enter(event);
                 Ok(reply)
             }
             Err(fault) => Err((fault, event)),
         }
     }
 
-    /// The events that the board took, in order.
-    pub fn journal(&self) -> &[BoardEvent]
-        ensures value { result.now ≡ self.now }
-        ensures short { length result.now < 2 ^ 63 }
+    /// How many events the board took.
+    pub fn entries(&self) -> u64
+        ensures value { result ≡ length self.now }
+        ensures short { result < 2 ^ 63 }
     {
-        self.journal.as_slice()
+        self.journal.len()
     }
 }

@@ -57,7 +57,7 @@ impl Journaled for Board {
     }
 
     fn entries(&self) -> u64 {
-        self.journal().len() as u64
+        Board::entries(self)
     }
 
     fn blame_so_far(&self) -> u64 {

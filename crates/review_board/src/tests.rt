@@ -100,7 +100,7 @@ fn answers_events_in_order(rt: HostRuntime) {
     }
     let reply = board.note(take(3, "/a"));
     assert_eq!(rt; said(&rt, alloc, reply).as_str(), "given /a");
-    assert_eq!(rt; board.journal().len(), 21);
+    assert_eq!(rt; board.entries(), 21);
     assert!(rt; board.reviews() && !NoBoard.reviews());
     assert!(rt; matches!(NoBoard.note(BoardEvent::List), Err(NoteFault::NoBoard)));
 }

@@ -2,7 +2,7 @@
 #![tactic(auto)]
 
 use cc_base::{HostFiles, HostSink, HostSource, HostStream, Joined};
-use cc_program::run_words;
+use cc_program::{end_without_memory, run_words};
 use net_links::HostListener;
 use std::process::ExitCode;
 use std::{env, io};
@@ -17,17 +17,18 @@ fn words_of(rt: &HostRuntime) -> io::Result<Vec<String>> {
 }
 
 fn main(rt: HostRuntime) -> ExitCode {
-    let words = words_of(&rt);
+    let mut err = HostSink::new(HostStream::Err(rt.stderr()));
+    let Ok(listener) = HostListener::new(rt, rt.alloc()) else {
+        return end_without_memory(&mut err);
+    };
     let mut files = HostFiles::new(rt);
     let input = HostSource::new(rt.stdin());
     let output = HostSink::new(HostStream::Out(rt.stdout()));
     let console = Joined::new(input, output);
-    let mut err = HostSink::new(HostStream::Err(rt.stderr()));
-    let listener = HostListener::new(rt);
     let (code, _left) = run_words(
         &rt,
         rt.alloc(),
-        words,
+        words_of(&rt),
         &mut files,
         console,
         listener,

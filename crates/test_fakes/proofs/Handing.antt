@@ -1,5 +1,5 @@
 -- Links that are handed out one after another.
-use Rattle.std.proofs.Common.{◌≡◌, ◌-◌, ◌+◌, ℕ, List, [], ◌∷◌, ◌++◌, Option, Some, length, map, take, ap, sym, ◌∙◌, subst, append_assoc, arith}
+use Rattle.std.proofs.Common.{◌≡◌, ◌-◌, ◌+◌, ℕ, List, [], ◌∷◌, ◌++◌, Option, Some, length, map, refl, take, ap, sym, ◌∙◌, subst, append_assoc, arith}
 use Rattle.std.proofs.Math.Logic.{∥∥₁_elim, ∥∥₁_map}
 use Rattle.std.proofs.Math.Seq.{take-append_seam}
 use Rattle.std.proofs.Props.{props}
@@ -53,3 +53,13 @@ pub fresh_rest : {C : Type 0} (written : C → Option (List ℕ)) (link : C) (ol
 fresh_rest {C} written link old new e h =
     let P : List C → Type 0 = λ links. ∥ AreFresh written links ∥₁ in
     ∥∥₁_map (subst P e h) (λ fresh. All-tail (λ x. IsFresh (written x)) link new fresh)
+
+-- before one is handed out, all wait
+none_out : {C : Type 0} (given : List C) → given ≡ handed_out given given ++ given
+none_out given = let none : length given - length given ≡ 0 = omega arith in rw none refl
+
+pub all_wait : {C : Type 0} (given waiting : List C) → waiting ≡ given → ∥ given ≡ handed_out given waiting ++ waiting ∥₁
+all_wait given waiting e = ∣ subst (λ links. given ≡ handed_out given links ++ links) (sym e) (none_out given) ∣₁
+
+pub all_fresh : {C : Type 0} (written : C → Option (List ℕ)) (given waiting : List C) → waiting ≡ given → AreFresh written given → ∥ AreFresh written waiting ∥₁
+all_fresh written given waiting e h = ∣ subst (AreFresh written) (sym e) h ∣₁

@@ -2,17 +2,19 @@
 ghost use Rattle.std.specs.Prelude.{◌≡◌, ◌↔◌, [], ◌∷◌, ◌++◌, None, Some, map, IfOk, IsErr, IsOk, OnErr, OnOk};
 ghost use Rattle.std.specs.Vec.Iter.{into_iter_items};
 ghost use Rattle.cc_base.specs.Outside.{HasCause, HasRisen};
-ghost use Rattle.net_links.specs.Links.{IsFresh, with_link};
+ghost use Rattle.net_links.specs.Links.{IsFresh, IsUnused, with_link};
 ghost use Rattle.test_fakes.specs.Handed.{AreFresh, accepted_link, handed_out};
 
 use cc_base::{Failed, Link};
 use net_links::{Connection, Listener};
+use std::alloc::Global;
 use std::snapshot::Snapshot;
 use std::vec::IntoIter;
 
 /// Links that wait to be accepted. A call fails only where none waits.
 #[derive(Drop)]
 pub struct MemoryListener<C: Link> {
+    alloc: Global,
     waiting: IntoIter<C>,
     given: Snapshot<Vec<C>>,
     faults: u64,
@@ -31,6 +33,7 @@ impl<C: Connection> MemoryListener<C> {
     {
         let given = Snapshot::of(&links);
         MemoryListener {
+            alloc: *links.allocator(),
             waiting: links.into_iter(),
             given,
             faults: 0,
@@ -85,5 +88,26 @@ impl<C: Connection> Listener for MemoryListener<C> {
                 Err(Failed)
             }
         }
+    }
+
+    /// Never fails. All links wait at the first handle.
+    fn split(&mut self) -> Result<Self, Failed>
+        ensures never { IsOk result }
+        ensures kept { self.new ≡ self.old }
+        ensures cause { HasCause self.old.faults self.new.faults result }
+        ensures accepted { ⟦<Self as Listener>⟧.accepted self.new
+            ≡ ⟦<Self as Listener>⟧.accepted self.old }
+        ensures unused { IfOk result
+            (λ l. IsUnused l.faults (⟦<Self as Listener>⟧.accepted l)) }
+    {
+        Ok(MemoryListener::new(Vec::new(self.alloc)))
+    }
+
+    /// Does nothing: the links that wait are accepted all the same.
+    fn shut_down(&self) {}
+
+    /// Whether no link waits.
+    fn is_shut(&self) -> bool {
+        self.waiting.len() == 0
     }
 }

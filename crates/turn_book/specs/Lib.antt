@@ -1,3 +1,4 @@
+pub mod Journals
 pub mod Faults
 pub mod Rule
 pub mod Plays

@@ -2,10 +2,12 @@
 //! event of one history.
 #![tactic(auto)]
 
+mod journal;
 mod journaled;
 mod rule;
 mod table;
 mod turn;
 
+pub use journal::Journal;
 pub use journaled::Journaled;
 pub use turn::{Pass, Turn};

@@ -105,9 +105,15 @@ OPTIONS = {
         Option(
             "--links",
             "N",
-            "how many links, which are TCP connections, are accepted in all, 1 to 64. Each is served on a thread of its own, and the "
-            "service ends once all have ended",
-            "1",
+            "how many links, which are TCP connections, are accepted in all, or with --forever are open at once, 1 to 64. Each is served "
+            "on a thread of its own. Without --forever the service ends once all have ended",
+            "1, and 16 with --forever",
+        ),
+        Option(
+            "--forever",
+            "",
+            "accepts any number of connections, at most --links at once, until `POST /cluster/close` asks it to shut down",
+            "it accepts --links in all",
         ),
         Option("--review", "", "keeps what would start something on a review board until it is approved there", "it starts at once"),
     )
@@ -152,10 +158,10 @@ COMMANDS = (
     Command(
         "serve",
         ("FILE",),
-        ("--listen", "--links", "--movers", "--planners", "--review"),
+        ("--listen", "--links", "--forever", "--movers", "--planners", "--review"),
         "answers the HTTP requests of links that come in at an address, over an in-process cluster that links, movers and planners "
-        "share; once as many links as asked were accepted and have ended, it carries out what is left, and ends. It neither reads the "
-        "input nor writes the output",
+        "share; once as many links as asked were accepted and have ended, or with --forever once it was asked to shut down, it carries out "
+        "what is left, and ends. It neither reads the input nor writes the output",
         is_service=True,
     ),
 )
@@ -176,7 +182,13 @@ ENDS = (
     End(0, ("gen",), "a plan was made", "its summary", NOTHING),
     End(0, ("gen",), "the cluster was made", "its file", NOTHING, only="with --file"),
     End(0, ("session",), "the input was read to its end or to a request that closes, and nothing is left to do", "the replies", NOTHING),
-    End(0, ("serve",), "as many links as asked were accepted and have ended, and nothing is left to do", NOTHING, NOTHING),
+    End(
+        0,
+        ("serve",),
+        "as many links as asked were accepted, or with --forever it was asked to shut down; all links have ended, and nothing is left to do",
+        NOTHING,
+        NOTHING,
+    ),
     End(2, NAMES, "the arguments are no command", NOTHING, "usage error"),
     End(3, LOADERS, "the cluster file was loaded and is refused", NOTHING, "cluster refused: FAULT"),
     End(4, ("plan", "apply"), "a hard goal fails, with the measure that is left", '{"failed":"GOAL","measure":"N"}', "hard goal failed: GOAL"),

@@ -234,7 +234,7 @@ def run(arguments: argparse.Namespace) -> int:
     rng = random.Random(arguments.seed)
     count, calls = arguments.executions, arguments.calls
     # the line that the table of the crate begins with
-    print("// Made by tools/executions.")
+    print("// Made by ./sumpharu-tools executions.")
     print("use crate::runs::{Call, Row};\n")
     heads = []
     for number in range(count):

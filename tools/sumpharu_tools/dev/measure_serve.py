@@ -9,7 +9,8 @@ without judging:
   - how long a rebalance takes over HTTP beside two movers and a planner, from the request to the first poll that tells its end: as a dry run, and for
     real
   - the memory of the process, now (VmRSS) and at its most (VmHWM), before and after --polls requests for the state over one link, and so the bytes
-    that a request adds: each one is an entry of the journal
+    that a request adds
+  - with --plans N, the bytes that each of N dry runs adds, and each of N removals of a broker that are carried out, beside two movers and a planner
 
 The client and the plain server are polls.rs, which stands beside this module, and which 'rustc -O' compiles in a temporary folder: so both services
 have the same client, and the number of requests is known. Another client, such as wrk, may be tried by hand; it has its own way of counting.
@@ -116,18 +117,21 @@ class Measure:
         print(f"  bytes a reply: {len(self.reply.read_bytes())}")
 
     def rebalance(self, link: serving.Link, query: str) -> Tuple[float, int]:
+        return self.plan(link, f"rebalance{query}")
+
+    def plan(self, link: serving.Link, query: str) -> Tuple[float, int]:
         """The seconds that it takes, and how many partitions change."""
-        path = f"/kafkacruisecontrol/rebalance{query}"
+        path = f"/kafkacruisecontrol/{query}"
         begun = time.monotonic()
         task = link.ask("POST", path).task
         while serving.status_of(link.ask("GET", "/kafkacruisecontrol/user_tasks").body, task) not in serving.ENDED:
             if time.monotonic() - begun > SECONDS:
-                raise Fault("the rebalance doesn't end")
+                raise Fault(f"it doesn't end: {query}")
             time.sleep(0.005)
         seconds = time.monotonic() - begun
         body = link.ask("POST", path, task).body
         if body["status"] != "Completed" or "proposals" not in body:
-            raise Fault(f"the rebalance ended otherwise: {body}")
+            raise Fault(f"{query} ended otherwise: {body}")
         return seconds, len(body["proposals"])
 
     def print_rebalance(self) -> None:
@@ -149,6 +153,19 @@ class Measure:
             print(f"  {when:6}  VmRSS {now:8} KB  VmHWM {most:8} KB")
         print(f"  bytes a request: {(after[0] - before[0]) * 1024 / max(self.words.polls, 1):.1f}")
 
+    def print_plans(self) -> None:
+        print(f"memory, and {self.words.plans} dry runs, and as many removals that are carried out, beside 2 movers and a planner")
+        with self.serve(0, 2, 1) as service:
+            self.rebalance(service.link, "")
+            memory = service.memory()[0]
+            for name, carried_out in (("a dry run", False), ("a removal", True)):
+                for number in range(self.words.plans):
+                    query = f"remove_broker?brokerid={number}&dryrun=false" if carried_out else "rebalance"
+                    self.plan(service.link, query)
+                now = service.memory()[0]
+                print(f"  bytes that {name} adds: {(now - memory) * 1024 / self.words.plans:.0f}", flush=True)
+                memory = now
+
 
 def check(words: argparse.Namespace) -> None:
     if shutil.which("rustc") is None:
@@ -164,6 +181,7 @@ def add_arguments(parser: argparse.ArgumentParser) -> None:
     parser.add_argument("--partitions", metavar="N", type=counted, default=2000, help="by default 2000")
     parser.add_argument("--runs", metavar="N", type=counted, default=3, help="how often each figure is measured; by default 3")
     parser.add_argument("--requests", metavar="N", type=counted, default=20000, help="how many requests a link sends; by default 20000")
+    parser.add_argument("--plans", metavar="N", type=counted, default=0, help="how many plans the memory is measured by; by default none")
     parser.add_argument("--polls", metavar="N", type=counted, default=100000, help="how many requests the memory is measured by; by default 100000")
 
 
@@ -174,4 +192,6 @@ def run(arguments: argparse.Namespace) -> int:
         measure.print_rates()
         measure.print_rebalance()
         measure.print_memory()
+        if arguments.plans:
+            measure.print_plans()
     return 0

@@ -54,7 +54,7 @@ def add_arguments(parser: argparse.ArgumentParser) -> None:
 
 def run(arguments: argparse.Namespace) -> int:
     # the line that the file of the crate begins with
-    print("// Small clusters, written by tools/random-clusters.")
+    print("// Small clusters, written by ./sumpharu-tools random-clusters.")
     print()
     print("pub const CLUSTERS: [&str; %d] = [" % COUNT)
     for number in range(COUNT):

@@ -4,7 +4,7 @@ use Rattle.quiet_commands.specs.declared.ends.End.TheVariants as end
 use Rattle.cc_program.proofs.entry.run_threads.Goals as goal
 
 pub returns-in_default : goal.returns-in_default
-returns-in_default g c = rw c.lent.ensures (end.Memory, c.exit_code-code.ensures ∙ c.conclude.ensures.status, c.conclude.ensures.told, inl (refl, refl, refl))
+returns-in_default g c = rw c.lent.ensures (end.Memory, c.end_without_memory.ensures.status, c.end_without_memory.ensures.told, inl (refl, refl, refl))
 
 pub returns : goal.returns
 returns g c =

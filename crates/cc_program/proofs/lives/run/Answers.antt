@@ -27,17 +27,17 @@ returns-in-Err-Refused-clause-leaves g c =
     let call : IsCalled (map string_bytes c.args.words.now) (length c.args.outside.copiers) = record { asked = _; means = c.in-Ok.ensures.ok.0; enough = omega (arith, c.in-Ok.ensures.ok.1, c.count.ensures) } in
     let loads = rw c.in-Err-Refused.field-0-is at c.in-Err-Refused.ensures.loads in
     let logs = rw c.in-Err-Refused.field-0-is at c.in-Err-Refused.ensures.logs in
-    rw c.idle-in-Err-Refused.ensures (inl (record { call = call; loaded = logs; fault = loads.0; refused = loads.1; line_is = loads.2 }, refl, refl, record { outside = refl; links = refl; movers = refl; planners = refl; board = refl; drain = refl }))
+    rw c.idle-in-Err-Refused.ensures (inl (record { call = call; loaded = logs; fault = loads.0; refused = loads.1; line_is = loads.2 }, refl, refl, record { outside = refl; links = refl; lanes = refl; movers = refl; planners = refl; board = refl; drain = refl }))
 
 pub returns-in-Err-Failed-clause-leaves : goal.returns-in-Err-Failed-clause-leaves
 returns-in-Err-Failed-clause-leaves g c =
     let call : IsCalled (map string_bytes c.args.words.now) (length c.args.outside.copiers) = record { asked = _; means = c.in-Ok.ensures.ok.0; enough = omega (arith, c.in-Ok.ensures.ok.1, c.count.ensures) } in
     let loads = rw c.in-Err-Failed.field-0-is at c.in-Err-Failed.ensures.loads in
     let logs = rw c.in-Err-Failed.field-0-is at c.in-Err-Failed.ensures.logs in
-    rw c.idle-in-Err-Failed.ensures (inl (((call, logs), loads.1), refl, refl, record { outside = refl; links = refl; movers = refl; planners = refl; board = refl; drain = refl }))
+    rw c.idle-in-Err-Failed.ensures (inl (((call, logs), loads.1), refl, refl, record { outside = refl; links = refl; lanes = refl; movers = refl; planners = refl; board = refl; drain = refl }))
 
 pub returns-clause-leaves : goal.returns-clause-leaves
 returns-clause-leaves g c =
     let call : IsCalled (map string_bytes c.args.words.now) (length c.args.outside.copiers) = record { asked = _; means = c.in-Ok.ensures.ok.0; enough = omega (arith, c.in-Ok.ensures.ok.1, c.count.ensures) } in
     let logs = rw c.in-Err-Memory-load.field-0-is at c.in-Err-Memory-load.ensures.logs in
-    rw c.idle-in-Err-Memory-load.ensures (inl (forgone (map string_bytes c.args.words.now) (length c.args.outside.copiers) (shelf g.F.Files.contents g.F.Files.faults g.F.Files.log c.args.files.now c.load.new.files) call logs, refl, refl, record { outside = refl; links = refl; movers = refl; planners = refl; board = refl; drain = refl }))
+    rw c.idle-in-Err-Memory-load.ensures (inl (forgone (map string_bytes c.args.words.now) (length c.args.outside.copiers) (shelf g.F.Files.contents g.F.Files.faults g.F.Files.log c.args.files.now c.load.new.files) call logs, refl, refl, record { outside = refl; links = refl; lanes = refl; movers = refl; planners = refl; board = refl; drain = refl }))

@@ -2,7 +2,7 @@ use Rattle.std.proofs.Common.{rules, ◌≡◌, ◌∙◌, ◌+◌, ◌<◌, ◌
 use Rattle.std.proofs.lemmas.List.{length-map}
 use Rattle.std.specs.List.{insert, remove}
 use Rattle.mover_rounds.specs.Made.{Copies, copier_of}
-use Rattle.live_service.specs.Asked.{crew_told}
+use Rattle.live_service.specs.Asked.{crew_view}
 use Rattle.cc_program.specs.Lives.{copiers_before}
 use Rattle.cc_program.proofs.Inserted.{links_counted, removed_length, taken_out}
 use Rattle.cc_program.proofs.lives.team_of.Goals as goal
@@ -14,7 +14,7 @@ returns-clause-team g c =
     let rest = c.remove-copier.new.self.items in
     let own = c.remove-copier.result in
     let at = c.copiers_before.result in
-    let crew = crew_told c.args.crew.now in
+    let crew = crew_view c.args.crew.now in
     let at_is : at ≡ copiers_before crew = c.copiers_before.ensures ∙ ap (λ (n : ℕ). c.args.crew.now.movers + n) (links_counted c.args.crew.now.serving) in
     let enough : copiers_before crew < length (map view all) = rw (← c.outside.view_is) at c.requires.enough in
     let within : at < length all = omega (arith, at_is, enough, length-map all view) in
@@ -39,16 +39,18 @@ returns-clause-ready g c =
     let rest = c.remove-copier.new.self in
     let crew = c.args.crew.now in
     let counted = links_counted crew.serving in
-    let enough : copiers_before (crew_told crew) < length (map view all) = rw (← c.outside.view_is) at c.requires.enough in
-    let at_is : c.copiers_before.result ≡ copiers_before (crew_told crew) = c.copiers_before.ensures ∙ ap (λ (n : ℕ). crew.movers + n) counted in
+    let enough : copiers_before (crew_view crew) < length (map view all) = rw (← c.outside.view_is) at c.requires.enough in
+    let at_is : c.copiers_before.result ≡ copiers_before (crew_view crew) = c.copiers_before.ensures ∙ ap (λ (n : ℕ). crew.movers + n) counted in
     let fits : length rest.items ≤ vec_capacity rest = search rules in
     record {
-      copiers = rw counted (enough_left view all rest.items c.copiers_before.result (copiers_before (crew_told crew)) enough at_is c.remove-copier.ensures.items);
+      copiers = rw counted (enough_left view all rest.items c.copiers_before.result (copiers_before (crew_view crew)) enough at_is c.remove-copier.ensures.items);
       room = still_fits view rest.items (vec_capacity rest) fits;
       parts = rw counted c.requires.few;
       board_parts = rw counted (few_links crew.planners crew.movers _ c.requires.few);
       none = search rules;
       places = search rules;
+      no_lane = search rules;
+      lane_room = search rules;
       no_mover = search rules;
       mover_room = search rules;
       no_planner = search rules;

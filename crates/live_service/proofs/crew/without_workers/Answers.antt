@@ -1,5 +1,5 @@
 use Rattle.std.proofs.Common.{◌≡◌, [], vec_capacity, refl, sym, subst, arith}
-use Rattle.live_service.specs.Asked.{serving_told}
+use Rattle.live_service.specs.Asked.{serving_view}
 use Rattle.live_service.specs.Runs.{HasRunMovers}
 use Rattle.live_service.specs.Views.{TeamView}
 use Rattle.live_service.proofs.Teams.{no_mover}
@@ -7,7 +7,7 @@ use Rattle.live_service.proofs.crew.without_workers.Goals as goal
 
 pub returns : goal.returns
 returns g c =
-    let asked = serving_told c.args.serving in
+    let asked = serving_view c.args.serving in
     let back = c.serve_front-callers.result in
     let inside = c.team.inside in
     let old : TeamView = record { front = inside.front; movers = inside.movers.items; mover_room = vec_capacity inside.movers; planners = inside.planners.items; planner_room = vec_capacity inside.planners } in

@@ -1,16 +1,16 @@
-use Rattle.std.proofs.Common.{rules, ◌≡◌, ◌≤◌, ◌∷◌, ◌∙◌, Ok, Err, List, ap, refl, sym, arith}
+use Rattle.std.proofs.Common.{rules, ◌≡◌, ◌≤◌, ◌∷◌, ◌∙◌, Ok, Err, List, false, ap, refl, sym, arith}
 use Rattle.mover_rounds.specs.Made.{copier_of}
 use Rattle.mover_workers.specs.Callers.{IsSince, known_by_caller}
 use Rattle.rest_session.specs.Answered.{HasServed}
 use Rattle.live_service.specs.Boards.{IsBoardCallerSince, board_seen}
-use Rattle.live_service.specs.Fronts.{HasLinkCause}
+use Rattle.live_service.specs.Links.{HasLinkCause}
 use Rattle.live_service.specs.Views.{ServedView, ServiceView, link_of}
-use Rattle.live_service.proofs.Accepting.{accepted_more, kept_least, moved_least, none_accepted, one_less, same_least, tried_on}
+use Rattle.live_service.proofs.Accepting.{accepted_more, kept_least, least_by, moved_least, none_accepted, one_less, same_least, tried_on}
 use Rattle.live_service.proofs.links.+accept_links+fn-accept_links-join+arg2.Goals as goal
 
 pub returns-then-links-eq0 : goal.returns-then-links-eq0
 returns-then-links-eq0 g t c = record {
-  accepted = none_accepted c.args.callers.book c.args.callers.board c.args.service c.args.service c.args.links (Ok tt) refl refl c.requires.space.none (omega arith) (omega arith) (omega arith) (search rules);
+  accepted = none_accepted c.args.callers.book c.args.callers.board c.args.service c.args.service c.args.links (Ok tt) refl refl c.requires.space.none (omega arith) (omega arith) (omega arith) refl (omega arith) (search rules);
   tried = record { heard = refl; given_up = tt };
 }
 
@@ -21,7 +21,7 @@ returns-in_default g t c =
     let rest = c.accept.ensures.rest in
     record {
       accepted = none_accepted c.args.callers.book c.args.callers.board s u c.args.links (Err _) c.in_default.ensures.failed (ap (λ (x : ServiceView). x.copiers) rest) (ap (λ (x : ServiceView). x.served) rest ∙ c.requires.space.none)
-          (omega (arith, ap (λ (x : ServiceView). x.room) rest)) (omega (arith, ap (λ (x : ServiceView). x.places) rest)) c.accept.ensures.later tt;
+          (omega (arith, ap (λ (x : ServiceView). x.room) rest)) (omega (arith, ap (λ (x : ServiceView). x.places) rest)) (omega (arith, ap (λ (x : ServiceView). x.lane_room) rest)) (ap (λ (x : ServiceView). x.lanes) rest) c.accept.ensures.later tt;
       tried = record { heard = c.accept.ensures.heard; given_up = c.in_default.ensures.given_up };
     }
 
@@ -54,7 +54,7 @@ returns g t c =
     let put = c.note.ensures.noted in
     let since : IsSince own back = search rules in
     let board_since : IsBoardCallerSince board_own board_back = search rules in
-    let answered : HasServed (known_by_caller own) (known_by_caller back) (board_seen board_own.reviews board_own.pass) (board_seen board_back.reviews board_back.pass) k l before.left before.written after.written one.3.end = search rules in
+    let answered : HasServed false (known_by_caller own) (known_by_caller back) (board_seen board_own.reviews board_own.pass) (board_seen board_back.reviews board_back.pass) k l before.left before.written after.written one.3.end = search rules in
     let cause : HasLinkCause before after one.3.end = search rules in
     record {
       accepted = accepted_more c.args.callers.book kept own u.book back c.join.new.self c.split-caller.ensures.turn.0 c.split-caller.ensures.turn.1 c.split-caller.ensures.cut since c.join.ensures.turn c.join.ensures.joined c.join.ensures.own.placed
@@ -66,12 +66,16 @@ returns g t c =
           (sym (ap (λ (x : ServiceView). x.copiers) accepted) ∙ c.take_copier-copier.ensures.taken)
           (same_least (ap (λ (x : ServiceView). x.room) took) (ap (λ (x : ServiceView). x.room) accepted))
           (same_least (ap (λ (x : ServiceView). x.places) took) (ap (λ (x : ServiceView). x.places) accepted))
+          (same_least (ap (λ (x : ServiceView). x.lane_room) took) (ap (λ (x : ServiceView). x.lane_room) accepted))
+          (ap (λ (x : ServiceView). x.lanes) took ∙ ap (λ (x : ServiceView). x.lanes) accepted)
           answered cause c.join-callers.ensures.first.0
           (ap (λ (x : ServiceView). x.net) put ∙ ap (λ (x : ServiceView). x.net) gave)
           (ap (λ (x : ServiceView). x.copiers) put ∙ ap (λ (x : ServiceView). x.copiers) gave)
           (ap (λ (x : ServiceView). x.served) put ∙ ap (λ (xs : List ServedView). noted ∷ xs) (ap (λ (x : ServiceView). x.served) gave))
           (kept_least (ap (λ (x : ServiceView). x.room) put) c.give_copier.ensures.room)
-          (moved_least (ap (λ (x : ServiceView). x.places) gave) c.note.ensures.places);
+          (moved_least (ap (λ (x : ServiceView). x.places) gave) c.note.ensures.places)
+          (least_by (ap (λ (x : ServiceView). x.lane_room) put ∙ ap (λ (x : ServiceView). x.lane_room) gave))
+          (ap (λ (x : ServiceView). x.lanes) put ∙ ap (λ (x : ServiceView). x.lanes) gave);
       tried = record {
         heard = (ap (λ (x : ServiceView). x.net.heard) put ∙ ap (λ (x : ServiceView). x.net.heard) gave) ∙ (tried.heard ∙ (ap (λ (x : ServiceView). x.net.heard) took ∙ c.accept.ensures.heard));
         given_up = rw (ap (λ (x : ServiceView). x.net.faults) put ∙ ap (λ (x : ServiceView). x.net.faults) gave) (tried_on c.join-callers.result.0.2 s.net.faults s1.net.faults t1.net.faults (kept_least (ap (λ (x : ServiceView). x.net.faults) took) c.accept.ensures.later) tried.given_up);

@@ -4,7 +4,7 @@ use Rattle.control_core.specs.Books.{BookView}
 use Rattle.mover_rounds.specs.Made.{copier_of}
 use Rattle.rest_session.specs.Heals.{is_heal}
 use Rattle.rest_session.proofs.Spared.{heal_spared}
-use Rattle.live_service.specs.Asked.{CrewAsked, crew_told}
+use Rattle.live_service.specs.Asked.{CrewAsked, crew_view}
 use Rattle.live_service.specs.Fronts.{HasAnswered, IsFront}
 use Rattle.live_service.specs.Live.{IsShared}
 use Rattle.live_service.specs.Views.{FrontView, TeamView, link_of, told_of}
@@ -16,14 +16,14 @@ pub settle-requires : goal.settle-requires
 settle-requires g c =
     let r = c.in_ok-book.field-0 in
     let w = c.in_ok-book.ensures.shared in
-    let crew : CrewAsked = crew_told c.args.crew in
+    let crew : CrewAsked = crew_view c.args.crew in
     is_closed g.P.Gate.Admin.faults (HasAnswered c.args.book.file crew.serving w.board_given w.board_back (told_of c.args.team.front) (told_of r.team.front) r.end) c.args.book r.book c.args.team r.team crew.movers crew.planners w.shared
 
 pub returns-clause-sound : goal.returns-clause-sound
-returns-clause-sound g c = c.every_history.ensures.histories c.finish-drain.new.book.file c.finish-drain.new.book.journal c.journal-legal.ensures.input c.journal-legal.ensures.legal
+returns-clause-sound g c = c.every_history.ensures.histories c.finish-drain.new.book.file c.finish-drain.new.book.journal c.entries-legal.ensures.input c.entries-legal.ensures.legal
 
 pub returns-clause-shown : goal.returns-clause-shown
-returns-clause-shown g c = c.every_history.ensures.lists c.finish-drain.new.book.file c.finish-drain.new.book.journal c.journal-legal.ensures.input c.journal-legal.ensures.legal
+returns-clause-shown g c = c.every_history.ensures.lists c.finish-drain.new.book.file c.finish-drain.new.book.journal c.entries-legal.ensures.input c.entries-legal.ensures.legal
 
 pub returns-clause-late : goal.returns-clause-late
 returns-clause-late g c = λ number e. let cause = rw e at c.finish-drain.ensures.cause in is_late g.P.Gate.Admin.faults c.in_ok-book.field-0.book c.settle.new.self c.finish-drain.new.book c.settle.ensures c.finish-drain.ensures.since cause.1
@@ -32,7 +32,7 @@ pub returns-clause-live : goal.returns-clause-live
 returns-clause-live g c =
     let r = c.in_ok-book.field-0 in
     let w = c.in_ok-book.ensures.shared in
-    let crew : CrewAsked = crew_told c.args.crew in
+    let crew : CrewAsked = crew_view c.args.crew in
     let view = copier_of g.P.Worker.Copier.copies g.P.Worker.Copier.faults in
     let link = link_of g.P.Console.Source.left g.P.Console.Sink.written g.P.Console.Source.faults g.P.Console.Sink.faults in
     let inside = c.team.inside in

@@ -1,13 +1,13 @@
 use Rattle.std.proofs.Common.{ap, ◌∙◌}
 use Rattle.mover_workers.specs.Callers.{CallerView}
-use Rattle.live_service.specs.Asked.{crew_told}
+use Rattle.live_service.specs.Asked.{crew_view}
 use Rattle.live_service.specs.Boards.{BoardCallerView}
 use Rattle.live_service.proofs.Sharing.{board_by_caller, shared_by_caller}
 use Rattle.live_service.proofs.live.share.Goals as goal
 
 pub returns-in-Ok-new-clause-shared : goal.returns-in-Ok-new-clause-shared
 returns-in-Ok-new-clause-shared g c =
-    let crew = crew_told c.args.crew in
+    let crew = crew_view c.args.crew in
     let over = c.with_workers-callers.result in
     let parts = c.into_parts-caller.ensures in
     let book = c.new-in-Ok-new in

@@ -22,14 +22,14 @@ loop-found-init g c = record {
 pub loop-found-smaller : goal.loop-found-smaller
 loop-found-smaller g c =
     let h = rw c.in-Worked.is at c.in_ok-found.ensures.round in
-    let j = c.journal-input.ensures in
+    let j = c.entries-input.ensures in
     (round_worked c.loop-found.book c.one_round.new.asker (copier_of g.K.Copier.copies g.K.Copier.faults c.loop-found.copier) (copier_of g.K.Copier.copies g.K.Copier.faults c.one_round.new.copier)
     j.input j.legal c.one_round.ensures.since.file c.every_history.ensures.histories c.every_event.ensures.refusals c.every_round.ensures.worked h).work
 
 pub loop-found-preserved : goal.loop-found-preserved
 loop-found-preserved g c =
     let h = rw c.in-Worked.is at c.in_ok-found.ensures.round in
-    let j = c.journal-input.ensures in
+    let j = c.entries-input.ensures in
     let inv = c.loop-found.invariant in
     let less = round_worked c.loop-found.book c.one_round.new.asker (copier_of g.K.Copier.copies g.K.Copier.faults c.loop-found.copier) (copier_of g.K.Copier.copies g.K.Copier.faults c.one_round.new.copier)
     j.input j.legal c.one_round.ensures.since.file c.every_history.ensures.histories c.every_event.ensures.refusals c.every_round.ensures.worked h in
@@ -49,7 +49,7 @@ pub returns-in-Planned-clause-by : goal.returns-in-Planned-clause-by
 returns-in-Planned-clause-by g c =
     let before = copier_of g.K.Copier.copies g.K.Copier.faults c.loop-found.copier in
     let behind = copier_of g.K.Copier.copies g.K.Copier.faults c.one_round.new.copier in
-    let j = c.journal-input.ensures in
+    let j = c.entries-input.ensures in
     let inv = c.loop-found.invariant in
     each_stop (λ found. HasRound (known_by_owner c.loop-found.book) (known_by_owner c.one_round.new.asker) before behind (Ok found) → IsFoundBy (state_of c.args.book.now).desk (state_of c.one_round.new.asker).desk found)
     c.in_ok-found.found c.in-Planned.is

@@ -17,7 +17,7 @@ copies_of copier = record { made = Some copier.copies.items; faults = 0 }
 pub returns-clause-did : goal.returns-clause-did
 returns-clause-did g c =
     let s = c.run_session-ended in
-    let legal = c.journal-legal.ensures in
+    let legal = c.entries-legal.ensures in
     let made = rw c.new-copier.ensures at s.ensures.session in
     λ reviews journal began ended.
     let before = subst (λ (x : Option BoardKnown). IsSession c.args.book.now s.new.book x (g.V.Reviewer.board s.new.reviewer) no_copies (copies_of s.new.copier) (g.L.Source.left c.args.console.now) (g.L.Sink.written c.args.console.now) (g.L.Sink.written s.new.link) s.result) began made in
