@@ -7,7 +7,7 @@ _sumpharu() {
         [check]='--goals --skip-hard-goal-check --excluded-topics'
         [gen]='--brokers --partitions --goals --skip-hard-goal-check --file'
         [session]='--movers --planners --review'
-        [serve]='--listen --links --forever --movers --planners --review'
+        [serve]='--listen --links --forever --movers --planners --review --page'
     )
     if [ "$COMP_CWORD" -eq 1 ]; then
         COMPREPLY=($(compgen -W "plan apply check gen session serve help --help --version" -- "$word"))

@@ -15,7 +15,7 @@ OPERATORS = ("from-kafka", "carry-out", "show-plan", "explain", "json-place", "g
 # These stand in the checkout alone, and in no package.
 DEVELOPERS = (
     *("wrong-bodies", "measure-gate", "measure-plans", "measure-serve", "make-manual", "make-pages", "make-package", "compare-plans"),
-    *("executions", "fail-allocations", "stress-sessions", "serve-session", "soak", "random-clusters"),
+    *("executions", "fail-allocations", "stress-sessions", "serve-session", "soak", "random-clusters", "look-at-page"),
 )
 
 

@@ -42,7 +42,7 @@ def commands():
 class Commands(unittest.TestCase):
     def test_commands_are_those_that_the_program_runs(self):
         text = (QUIET / "commands.rt").read_text() + (LIVE / "lives.rt").read_text()
-        run = {name.lower() for name in re.findall(r"^ +Command::(\w+)\(", text, re.M)}
+        run = {name.lower() for name in re.findall(r"^ +Command::(\w+) \{", text, re.M)}
         self.assertEqual(set(NAMES), run, "tools/sumpharu_tools/dev/commands.py needs a row for each command; then run './sumpharu-tools make-manual'")
 
     def test_arguments_are_those_of_the_words(self):

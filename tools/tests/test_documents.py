@@ -347,12 +347,12 @@ class Documents(unittest.TestCase):
                     self.assertEqual(value, counts.get(what), f"{page.name}: {number} {what}")
 
     def test_made_pages(self):
-        """The pages that make-pages makes are what it would make now."""
+        """The files that make-pages makes are what it would make now."""
         self.assertEqual(made_pages.stale(), [], "run './sumpharu-tools make-pages'")
 
     def test_stale_pages_are_found(self):
         with tempfile.TemporaryDirectory() as room:
-            self.assertEqual(made_pages.stale(pathlib.Path(room)), list(made_pages.PAGES))
+            self.assertEqual(made_pages.stale(pathlib.Path(room)), list(made_pages.FILES))
 
     def test_definitions_of_a_file(self):
         """A comment is the meaning of what stands right below it, and of the names without one that follow."""

@@ -386,6 +386,30 @@ class Serve(unittest.TestCase):
         link.close()
         self.assert_ends()
 
+    def test_the_page(self):
+        """It is the file of the checkout, with the option alone, and other requests of its connection are answered."""
+        page = (ROOT / "web/page.html").read_bytes()
+        head = f"HTTP/1.1 200 OK\r\nContent-Type: text/html; charset=utf-8\r\nContent-Length: {len(page)}\r\nX-Frame-Options: DENY\r\n\r\n"
+        shown = head.encode() + page
+        self.start("--page")
+        link = self.link()
+        self.assertEqual(link.ask("POST", "/").code, 405)
+        self.assertEqual(link.ask("GET", "/?now=1").body["errorMessage"], "bad parameter: now")
+        self.assertEqual(link.ask("POST", CLOSE).code, 404)
+        link.send(request_bytes("GET /") + request_bytes(f"GET {STATE}") + b"GET /?reason=look HTTP/1.1\r\nConnection: close\r\n\r\n")
+        self.assertEqual(link.rest(), shown + reply_bytes("200 OK", IDLE) + shown)
+        self.assert_ends()
+        self.start("--forever", "--page")
+        link = self.link()
+        link.send(request_bytes("GET /") + request_bytes(f"POST {CLOSE}"))
+        self.assertEqual(link.rest(), shown + reply_bytes("200 OK", '{"closing":true,"version":1}'))
+        self.assert_ends()
+        self.start()
+        link = self.link()
+        self.assertEqual(link.ask("GET", "/").code, 404)
+        link.close()
+        self.assert_ends()
+
     def test_any_number_of_links_without_threads(self):
         """One is served after another."""
         self.start("--forever", "--links", "2", addresses=NO_THREADS)

@@ -63,6 +63,7 @@ impl<A: Amount, B: Band, S: Strength> Goal for BrokerGoal<A, B, S> {
     ghost use Rattle.goal_terms.proofs.CaseLemmas.{Limits-case};
     ghost use Rattle.goal_terms.proofs.PairLemmas.{broker-cold_pairs, broker-idle_trades, stirred-still_parts};
     ghost use Rattle.goal_terms.proofs.RoomLemmas.{broker-rooms_decide, broker-rooms_stay};
+    ghost use Rattle.goal_terms.proofs.VerdictLemmas.{broker-verdicts_stay};
 
     ghost meaning = { λ g c. per_broker S.HARD (A.weights g.kind) (B.bounds g.band c) c };
 
@@ -141,4 +142,7 @@ impl<A: Amount, B: Band, S: Strength> Goal for BrokerGoal<A, B, S> {
 
     ghost rooms_stay = { λ g c lists _ belongs a fit k not_giver not_taker. broker-rooms_stay
         (A.weights g.kind) (B.bounds g.band c) c lists a belongs fit k not_giver not_taker };
+
+    ghost verdicts_stay = { λ g c lists _ is_case fits. broker-verdicts_stay S.HARD
+        (A.weights g.kind) (B.bounds g.band c) c lists (Limits-case c is_case) fits };
 }

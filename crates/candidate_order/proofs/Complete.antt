@@ -14,7 +14,12 @@ use Rattle.plan_terms.proofs.MemberLemmas.{list_all-member}
 use Rattle.plan_terms.specs.declared.cluster.Broker.{Broker}
 use Rattle.plan_terms.specs.declared.actions.Action.{Action}
 use Rattle.plan_terms.specs.declared.actions.Action.TheVariants.{Move, Lead, Swap}
-use Rattle.candidate_order.specs.CandidateList.{replicas_of, moves_of_replica, move_list, lead_list, swap_list, candidate_list, NoStep}
+use Rattle.candidate_order.specs.CandidateList.{candidates_at, replicas_of, moves_of_replica, move_list, lead_list, swap_list, candidate_list, NoStep}
+use Rattle.candidate_order.specs.Exhausted.{kind_of}
+use Rattle.candidate_order.specs.declared.kinds.Kind.{Kind}
+use Rattle.candidate_order.specs.declared.kinds.Kind.TheVariants.{Moves, Leads, Swaps}
+use Rattle.goal_terms.specs.Pairs.{giver, taker}
+use Rattle.plan_terms.specs.Fits.{fits, targets_known}
 use Rattle.candidate_order.proofs.OrderLemmas.{replicas-are}
 
 -- x is a member of the list
@@ -138,3 +143,46 @@ module _ (c : Cluster) (lists : Lists) (h : Belongs c lists) where
           fails = λ accepted lessens. All-at (λ x. Step c earlier goal lists x → ⊥) (legal-listed _ legal) none (record { legal = legal; accepted = accepted; lessens = lessens });
         };
   }
+
+  -- every legal action is a candidate of its kind for the replicas of the broker that gives
+  pub row-listed : (a : Action) → is_legal c lists a ≡ true → Among a (flat_map (candidates_at (kind_of a) c lists (giver lists a)) (replicas_of c lists (giver lists a)))
+  row-listed (Move p a b) l =
+      let fit = fits-Move lists p a b (fits-legal c lists (Move p a b) l) in
+      let y = known-Among c.brokers b (targets_known-legal c lists (Move p a b) l) in
+      let one : Among (Move p a y.0.id) (flat_map (moves_of_replica c a) (replicas_of c lists a)) =
+      joined (moves_of_replica c a) (replica p a fit.source) (mapped (λ (z : Broker). Move p a z.id) y.1) in
+      rw y.2 at one
+  row-listed (Lead p b) l =
+      let fit = fits-Lead lists p b (fits-legal c lists (Lead p b) l) in
+      let first = first-leads (list_of lists p) b fit.member in
+      let a = get_or (list_of lists p) 0 0 in
+      let y = known-Among c.brokers b (known-member p b fit.member) in
+      let lead : Among (Lead p y.0.id) (candidates_at Leads c lists a p) = rw first.0 (mapped (λ (z : Broker). Lead p z.id) y.1) in
+      let one : Among (Lead p y.0.id) (flat_map (candidates_at Leads c lists a) (replicas_of c lists a)) =
+      joined (candidates_at Leads c lists a) (replica p a first.1) lead in
+      rw y.2 at one
+  row-listed (Swap p a q b) l =
+      let fit = fits-Swap lists p a q b (fits-legal c lists (Swap p a q b) l) in
+      let y = known-Among c.brokers b (known-member q b fit.target) in
+      let other : Among q (replicas_of c lists y.0.id) = rw y.2 (replica q b fit.target) in
+      let one : Among (Swap p a q y.0.id) (flat_map (candidates_at Swaps c lists a) (replicas_of c lists a)) =
+      joined (candidates_at Swaps c lists a) (replica p a fit.source)
+      (joined (λ (v : Broker). map (λ s. Swap p a s v.id) (replicas_of c lists v.id)) y.1 (mapped (λ s. Swap p a s y.0.id) other)) in
+      rw y.2 at one
+
+  -- where none of these is a step, no action of the kind that the broker gives by is one
+  pub row-none : (earlier : List Meaning) (goal : Meaning) (kind : Kind) (b : ℕ) → NoStep c earlier goal lists (flat_map (candidates_at kind c lists b) (replicas_of c lists b))
+      → (y : Action) → kind_of y ≡ kind → giver lists y ≡ b → Step c earlier goal lists y → ⊥
+  row-none earlier goal kind b none y e i s =
+      All-at (λ x. Step c earlier goal lists x → ⊥) (rw (e, i) at (row-listed y s.legal)) none s
+
+  -- both brokers of an action that fits, onto known ones, are known
+  pub giver-known : (a : Action) → fits lists a ≡ true → is_known c (giver lists a) ≡ true
+  giver-known (Move p a b) fit = known-member p a (fits-Move lists p a b fit).source
+  giver-known (Lead p b) fit = known-member p (get_or (list_of lists p) 0 0) (first-leads (list_of lists p) b (fits-Lead lists p b fit).member).1
+  giver-known (Swap p a q b) fit = known-member p a (fits-Swap lists p a q b fit).source
+
+  pub taker-known : (a : Action) → fits lists a ≡ true → targets_known c a ≡ true → is_known c (taker a) ≡ true
+  taker-known (Move p a b) fit known = known
+  taker-known (Lead p b) fit known = known-member p b (fits-Lead lists p b fit).member
+  taker-known (Swap p a q b) fit known = known-member q b (fits-Swap lists p a q b fit).target

@@ -1,11 +1,13 @@
 pub mod BlockLemmas
 pub mod Complete
+pub mod ExhaustLemmas
 pub mod Firsts
 pub mod KindLemmas
 pub mod LeadLemmas
 pub mod LookLemmas
 pub mod OrderLemmas
 pub mod RankLemmas
+pub mod RestLemmas
 pub mod RowLemmas
 pub mod StirLemmas
 pub mod SwapLemmas

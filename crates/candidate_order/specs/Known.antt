@@ -41,7 +41,7 @@ rooms_for g c lists b goals = map (λ x. look_room (g.weighs x) (g.room_at x c l
 
 -- a broker's row tells its rooms and its heat
 abbrev pub IsRowFor : {G : Type 0} → goal_trait.Ghosts G → Cluster → Lists → List G → G → Row → Type 0
-IsRowFor g c lists earlier goal row = IsRow g.weighs (λ x. g.room_at x c lists) (g.heat_at goal c lists) earlier row
+IsRowFor g c lists earlier goal row = IsRow g.weighs (λ x. g.room_at x c lists) (g.heat_at goal c lists) earlier c row
 
 -- the rows are those of the brokers that are chosen
 abbrev pub AreChosenFor : {G : Type 0} → goal_trait.Ghosts G → Cluster → Lists → List G → G → Choice → List Row → Type 0
@@ -53,7 +53,7 @@ AreBelowFor g c lists earlier goal rows = AreBelow g.weighs (λ x. g.room_at x c
 
 -- what is kept for a search is true of the lists
 abbrev pub IsScanFor : {G : Type 0} → goal_trait.Ghosts G → Cluster → Lists → List G → G → Scan → Type 0
-IsScanFor g c lists earlier goal scan = IsScan g.weighs (λ x. g.room_at x c lists) (g.heat_at goal c lists) (g.stirs_at goal c lists) earlier c scan
+IsScanFor g c lists earlier goal scan = IsScan g.weighs (λ x. g.room_at x c lists) (g.heat_at goal c lists) (g.stirs_at goal c lists) earlier c (StepFor g c lists earlier goal) lists scan
 
 -- of it, all but two brokers' rooms is true of the lists
 abbrev pub IsKeptFor : {G : Type 0} → goal_trait.Ghosts G → Cluster → Lists → List G → Scan → Type 0

@@ -1,8 +1,10 @@
 pub mod CandidateList
+pub mod Exhausted
 pub mod First
 pub mod Known
 pub mod Laws
 pub mod Looks
 pub mod Order
 pub mod Ranks
+pub mod Rests
 pub mod Scan

@@ -3,6 +3,7 @@ ghost use Rattle.candidate_order.specs.Known.{AreBelowFor, AreChosenFor, IsKeptF
 ghost use Rattle.std.specs.Prelude.{◌≡◌, ◌<◌, true, false, IfOk, IsTrue, map, length};
 ghost use Rattle.std.specs.List.{All};
 ghost use Rattle.candidate_order.specs.Looks.{is_below, is_cold, look_weight, look_whole, IsWeighed};
+ghost use Rattle.candidate_order.specs.Rests.{IsRestsFor};
 ghost use Rattle.candidate_order.specs.declared.kept.Row.{Row};
 ghost use Rattle.candidate_order.specs.Scan.{AreStirring, AreWeights, is_chosen};
 ghost use Rattle.goal_terms.specs.declared.heat.Heat.TheVariants as heat;
@@ -10,10 +11,11 @@ ghost use Rattle.plan_terms.specs.Belongs.{IsBookOf};
 ghost use Rattle.goal_terms.specs.Pairs.{giver, taker};
 ghost use Rattle.plan_terms.specs.Cluster.{is_known, id_at, ids_of};
 ghost use Rattle.plan_terms.specs.Effect.{after};
-ghost use Rattle.plan_terms.specs.Fits.{fits};
+ghost use Rattle.plan_terms.specs.Fits.{fits, targets_known};
 
 use crate::looks::{rooms_of, weights_of, wholes_of};
 use crate::order::broker_place;
+use crate::rests::Rests;
 use goal_terms::{Heat, Room};
 use load_model::{Case, LoadBook};
 use move_actions::Goal;
@@ -30,8 +32,9 @@ pub struct PartWeights {
 /// What is kept of one broker while candidates are tried.
 #[derive(Drop)]
 pub struct Row {
-    /// The broker's id.
+    /// The broker's id, and its place among the brokers.
     pub id: u32,
+    pub place: usize,
     /// Its room for each earlier goal: no limit for one without a quantity.
     pub rooms: Vec<Room>,
     /// Where its quantity lies for the goal at hand.
@@ -54,6 +57,8 @@ pub struct Scan {
     /// The two brokers of the last action, whose rooms it changed.
     pub giver: u32,
     pub taker: u32,
+    /// Which candidates are known not to serve.
+    pub rests: Rests,
 }
 
 // What the places of one partition weigh.
@@ -139,7 +144,12 @@ fn row_at<G: Goal>(
     let id = case.brokers()[broker].id;
     let rooms = rooms_of(alloc, case, book, earlier, wholes, broker)?;
     let heat = goal.heat(case, book, broker);
-    Ok(Row { id, rooms, heat })
+    Ok(Row {
+        id,
+        place: broker,
+        rooms,
+        heat,
+    })
 }
 
 /// What is kept of each broker, in their order.
@@ -202,6 +212,7 @@ fn row_again<G: Goal>(
     let heat = goal.heat(case, book, broker);
     Ok(Row {
         id: row.id,
+        place: broker,
         rooms,
         heat,
     })
@@ -249,12 +260,14 @@ impl Row {
     // The same row.
     fn copy(&self, alloc: Global) -> Result<Row, Memory>
         ensures id { IfOk result (λ r. r.id ≡ self.now.id) }
+        ensures place { IfOk result (λ r. r.place ≡ self.now.place) }
         ensures rooms { IfOk result (λ r. r.rooms.items ≡ self.now.rooms.items) }
         ensures heat { IfOk result (λ r. r.heat ≡ self.now.heat) }
     {
         let rooms = Vec::from_slice(alloc, self.rooms.as_slice())?;
         Ok(Row {
             id: self.id,
+            place: self.place,
             rooms,
             heat: self.heat,
         })
@@ -325,7 +338,7 @@ pub fn all_below<G: Goal>(
 }
 
 // The broker that a replica or the lead leaves.
-fn giver(book: &LoadBook, action: Action) -> u32
+pub(crate) fn giver(book: &LoadBook, action: Action) -> u32
     requires { IsTrue (fits book.now.lists action) }
     ensures { result ≡ giver book.now.lists action }
 {
@@ -337,7 +350,7 @@ fn giver(book: &LoadBook, action: Action) -> u32
 }
 
 // The broker that takes it.
-fn taker(action: Action) -> u32
+pub(crate) fn taker(action: Action) -> u32
     ensures { result ≡ taker action }
 {
     match action {
@@ -359,10 +372,13 @@ impl Scan {
         requires made { All (λ g. G.made_for g case.now) earlier.now }
         requires made_goal { G.made_for goal.now case.now }
         requires belongs { IsBookOf case.now book.now }
-        ensures { IfOk result (IsKeptFor G.Goal case.now book.now.lists earlier.now) }
+        ensures kept { IfOk result (IsKeptFor G.Goal case.now book.now.lists earlier.now) }
+        ensures rests { IfOk result
+            (λ s. IsRestsFor G.Goal case.now book.now.lists earlier.now goal.now s.rests) }
     {
         let weights = all_weights(alloc, case, earlier)?;
         let rows = all_rows(alloc, case, book, earlier, goal)?;
+        let rests = Rests::new(alloc, case, book, earlier, goal)?;
         Ok(Scan {
             weights,
             rows,
@@ -371,6 +387,7 @@ impl Scan {
             stirring: Vec::new(alloc),
             giver: u32::MAX,
             taker: u32::MAX,
+            rests,
         })
     }
 
@@ -388,10 +405,37 @@ impl Scan {
         requires belongs { IsBookOf case.now book.now }
         requires applies { IsTrue (fits book.now.lists action) }
         requires scan { IsScanFor G.Goal case.now book.now.lists earlier.now goal.now self.old }
-        ensures { IsKeptFor G.Goal case.now (after action book.now.lists) earlier.now self.new }
+        ensures kept { IsKeptFor G.Goal case.now (after action book.now.lists) earlier.now self.new }
+        ensures rests { self.new.rests ≡ self.old.rests }
     {
         self.giver = giver(book, action);
         self.taker = taker(action);
+    }
+
+    /// What is kept, and remembered, after an action that is about to be applied to the book.
+    pub fn step<G: Goal>(
+        &mut self,
+        case: &Case,
+        book: &LoadBook,
+        earlier: &[G],
+        goal: &G,
+        action: Action,
+    )
+        // The goals and the book are of the case.
+        requires made { All (λ g. G.made_for g case.now) earlier.now }
+        requires made_goal { G.made_for goal.now case.now }
+        requires belongs { IsBookOf case.now book.now }
+        // The action, and what is known of the lists.
+        requires applies { IsTrue (fits book.now.lists action) }
+        requires known { IsTrue (targets_known case.now action) }
+        requires scan { IsScanFor G.Goal case.now book.now.lists earlier.now goal.now self.old }
+        // What is known of the lists after it.
+        ensures kept { IsKeptFor G.Goal case.now (after action book.now.lists) earlier.now self.new }
+        ensures rests { IsRestsFor G.Goal case.now (after action book.now.lists) earlier.now goal.now
+            self.new.rests }
+    {
+        self.note(case, book, earlier, goal, action);
+        self.rests.touch(case, book, earlier, goal, action);
     }
 }
 
@@ -457,7 +501,7 @@ pub(crate) fn all_cold(rows: &[Row]) -> bool
     true
 }
 
-fn is_below(heat: Heat) -> bool
+pub(crate) fn is_below(heat: Heat) -> bool
     ensures { result ≡ is_below heat }
 {
     matches!(heat, Heat::Below)

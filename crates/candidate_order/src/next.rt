@@ -3,6 +3,7 @@ ghost use Rattle.std.specs.Prelude.{IsTrue, IfOk, IfSome};
 ghost use Rattle.std.specs.List.{All};
 ghost use Rattle.candidate_order.specs.Known.{FindsNext, IsKeptFor, IsScanFor, NoneLeftFor};
 ghost use Rattle.candidate_order.specs.Order.{IsOrderOf};
+ghost use Rattle.candidate_order.specs.Rests.{IsRestsFor};
 ghost use Rattle.candidate_order.specs.Scan.{AreStirring};
 ghost use Rattle.plan_terms.specs.Belongs.{IsBookOf};
 
@@ -10,6 +11,7 @@ use crate::kept::{Choice, Scan, all_again, all_below, all_chosen, all_cold, all_
 use crate::kinds::Kind;
 use crate::nexts::next_in;
 use crate::order::Order;
+use crate::rests::Rests;
 use load_model::{Case, LoadBook};
 use move_actions::Goal;
 use plan_terms::{Action, Memory};
@@ -58,14 +60,15 @@ fn first_candidate<G: Goal + Sync, R: Threads + Sync>(
     order: &Order,
     earlier: &[G],
     goal: &G,
-    scan: &Scan,
+    scan: &mut Scan,
 ) -> Option<Action>
     requires made { All (λ g. G.made_for g case.now) earlier.now }
     requires made_goal { G.made_for goal.now case.now }
     requires belongs { IsBookOf case.now book.now }
     requires order { IsOrderOf case.now book.now.lists order.now }
-    requires scan { IsScanFor G.Goal case.now book.now.lists earlier.now goal.now scan.now }
-    ensures { FindsNext G.Goal case.now book.now.lists earlier.now goal.now result }
+    requires scan { IsScanFor G.Goal case.now book.now.lists earlier.now goal.now scan.old }
+    ensures next { FindsNext G.Goal case.now book.now.lists earlier.now goal.now result }
+    ensures scan { IsScanFor G.Goal case.now book.now.lists earlier.now goal.now scan.new }
 {
     if is_at_rest(case, book, earlier, goal, scan) {
         return None;
@@ -108,6 +111,36 @@ pub fn next_lessening<G: Goal + Sync, R: Threads + Sync>(
     // The order is of these lists, and the scan is kept from the last ones.
     requires order { IsOrderOf case.now book.now.lists order.now }
     requires kept { IsKeptFor G.Goal case.now book.now.lists earlier.now scan.old }
+    // The next action, and the scan with it.
+    ensures next { IfOk result
+        (λ next. FindsNext G.Goal case.now book.now.lists earlier.now goal.now next) }
+    ensures scan { IfOk result (λ next. IfSome next
+        (λ _. IsScanFor G.Goal case.now book.now.lists earlier.now goal.now scan.new)) }
+{
+    scan.rests = Rests::new(alloc, case, book, earlier, goal)?;
+    next_in_turn(rt, alloc, case, book, order, scan, earlier, goal)
+}
+
+/// The same in a goal's turn, where the scan remembers what was found not to serve: of these lists, as
+/// [`Scan::new`] or, since the last action, [`Scan::step`] left it.
+pub fn next_in_turn<G: Goal + Sync, R: Threads + Sync>(
+    rt: &R,
+    alloc: Global,
+    case: &Case,
+    book: &LoadBook,
+    order: &Order,
+    scan: &mut Scan,
+    earlier: &[G],
+    goal: &G,
+) -> Result<Option<Action>, Memory>
+    // The goals and the book are of the case.
+    requires made { All (λ g. G.made_for g case.now) earlier.now }
+    requires made_goal { G.made_for goal.now case.now }
+    requires belongs { IsBookOf case.now book.now }
+    // The order is of these lists, and the scan is kept from the last ones.
+    requires order { IsOrderOf case.now book.now.lists order.now }
+    requires kept { IsKeptFor G.Goal case.now book.now.lists earlier.now scan.old }
+    requires rests { IsRestsFor G.Goal case.now book.now.lists earlier.now goal.now scan.old.rests }
     // The next action, and the scan with it.
     ensures next { IfOk result
         (λ next. FindsNext G.Goal case.now book.now.lists earlier.now goal.now next) }

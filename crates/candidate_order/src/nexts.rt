@@ -1,5 +1,5 @@
 // The first candidate of one kind that serves.
-ghost use Rattle.std.specs.Prelude.{◌≡◌, ◌<◌, ℕ, None, IsTrue, length};
+ghost use Rattle.std.specs.Prelude.{◌≡◌, ◌<◌, ℕ, None, IsTrue, length, get_or};
 ghost use Rattle.std.specs.List.{All, flat_map};
 ghost use Rattle.candidate_order.specs.CandidateList.{candidates_at, candidates_in};
 ghost use Rattle.candidate_order.specs.Known.{FindsFirst, IsRowFor, IsScanFor};
@@ -13,7 +13,7 @@ use crate::kept::{Row, Scan, column};
 use crate::kinds::Kind;
 use crate::leads::first_lead;
 use crate::order::Order;
-use crate::rows::{first_anywhere, gives_in_vain};
+use crate::rows::{first_anywhere, gives_in_vain, gives_in_vain_since};
 use crate::swaps::{first_swap, may_trade};
 use load_model::{Case, LoadBook};
 use move_actions::Goal;
@@ -175,6 +175,71 @@ fn serves_nobody<G: Goal>(
     }
 }
 
+// Since what time an action has to have touched a partition, or no candidate of one kind for the
+// broker's replica of it serves. It is 0 where nothing is known.
+fn rests_since<G: Goal>(
+    kind: Kind,
+    case: &Case,
+    book: &LoadBook,
+    earlier: &[G],
+    goal: &G,
+    scan: &Scan,
+    source: &Row,
+) -> u64
+    requires made_goal { G.made_for goal.now case.now }
+    requires belongs { IsBookOf case.now book.now }
+    requires scan { IsScanFor G.Goal case.now book.now.lists earlier.now goal.now scan.now }
+    requires source { IsRowFor G.Goal case.now book.now.lists earlier.now goal.now source.now }
+    ensures { (part : ℕ) → part < length case.now.parts
+        → get_or scan.now.rests.parts.items part 0 < result
+        → FindsFirst G.Goal case.now book.now.lists earlier.now goal.now
+        (candidates_at kind case.now book.now.lists source.now.id part) None }
+{
+    match kind {
+        Kind::Moves => gives_in_vain_since(case, book, earlier, goal, scan, source),
+        Kind::Leads => 0,
+        Kind::Swaps => 0,
+    }
+}
+
+// The first candidate of one kind for one replica that serves, if its partition was touched since.
+fn first_at_since<G: Goal>(
+    kind: Kind,
+    case: &Case,
+    book: &LoadBook,
+    order: &Order,
+    earlier: &[G],
+    goal: &G,
+    scan: &Scan,
+    part: u32,
+    source: &Row,
+    since: u64,
+) -> Option<Action>
+    // The goals and the book are of the case.
+    requires made { All (λ g. G.made_for g case.now) earlier.now }
+    requires made_goal { G.made_for goal.now case.now }
+    requires belongs { IsBookOf case.now book.now }
+    // The order and the scan are of these lists, and so is the row of the source.
+    requires order { IsOrderOf case.now book.now.lists order.now }
+    requires scan { IsScanFor G.Goal case.now book.now.lists earlier.now goal.now scan.now }
+    requires part { part < length case.now.parts }
+    requires source { IsRowFor G.Goal case.now book.now.lists earlier.now goal.now source.now }
+    // What is known if it wasn't.
+    requires since { get_or scan.now.rests.parts.items part 0 < since
+        → FindsFirst G.Goal case.now book.now.lists earlier.now goal.now
+        (candidates_at kind case.now book.now.lists source.now.id part) None }
+    // The first that serves, or none does.
+    ensures { FindsFirst G.Goal case.now book.now.lists earlier.now goal.now
+        (candidates_at kind case.now book.now.lists source.now.id part) result }
+{
+    let _brokers = case.brokers();
+    let _lists = book.lists();
+    if scan.rests.parts[part as usize] < since {
+        return None;
+    }
+    first_at(kind, case, book, order, earlier, goal, scan, part, source)
+}
+
 // The first candidate of one kind for one broker's replicas that serves. Of many replicas, swaps
 // are looked for by threads: a replica has a swap with each of the others.
 fn first_of<G: Goal + Sync, R: Threads + Sync>(
@@ -218,8 +283,11 @@ fn first_of<G: Goal + Sync, R: Threads + Sync>(
         };
         return first_by_blocks(rt, &search, replicas);
     }
+    let since = rests_since(kind, case, book, earlier, goal, scan, source);
     for part in replicas {
-        let found = first_at(kind, case, book, order, earlier, goal, scan, *part, source);
+        let found = first_at_since(
+            kind, case, book, order, earlier, goal, scan, *part, source, since,
+        );
         if let Some(action) = found {
             return Some(action);
         }
@@ -227,7 +295,7 @@ fn first_of<G: Goal + Sync, R: Threads + Sync>(
     None
 }
 
-/// The first candidate of one kind that serves.
+/// The first candidate of one kind that serves. That the rows before it have none is remembered.
 pub fn next_in<G: Goal + Sync, R: Threads + Sync>(
     rt: &R,
     kind: Kind,
@@ -236,18 +304,21 @@ pub fn next_in<G: Goal + Sync, R: Threads + Sync>(
     order: &Order,
     earlier: &[G],
     goal: &G,
-    scan: &Scan,
+    scan: &mut Scan,
 ) -> Option<Action>
     requires made { All (λ g. G.made_for g case.now) earlier.now }
     requires made_goal { G.made_for goal.now case.now }
     requires belongs { IsBookOf case.now book.now }
     requires order { IsOrderOf case.now book.now.lists order.now }
-    requires scan { IsScanFor G.Goal case.now book.now.lists earlier.now goal.now scan.now }
-    ensures { FindsFirst G.Goal case.now book.now.lists earlier.now goal.now
+    requires scan { IsScanFor G.Goal case.now book.now.lists earlier.now goal.now scan.old }
+    ensures first { FindsFirst G.Goal case.now book.now.lists earlier.now goal.now
         (candidates_in kind case.now book.now.lists) result }
+    ensures scan { IsScanFor G.Goal case.now book.now.lists earlier.now goal.now scan.new }
 {
-    let rows = scan.rows.as_slice();
-    for (k, source) in rows.iter().enumerate() {
+    let end = case.brokers().len();
+    for k in 0..end {
+        let rows = scan.rows.as_slice();
+        let source = &rows[k];
         let replicas = order.row(k);
         let found = first_of(
             rt, kind, case, book, order, earlier, goal, scan, source, replicas,
@@ -255,6 +326,8 @@ pub fn next_in<G: Goal + Sync, R: Threads + Sync>(
         if let Some(action) = found {
             return Some(action);
         }
+        let id = source.id;
+        scan.rests.pass(case, book, earlier, goal, kind, id);
     }
     None
 }

@@ -1,9 +1,10 @@
 // The first move of a replica that serves.
-ghost use Rattle.std.specs.Prelude.{◌≡◌, ◌<◌, ◌↔◌, ℕ, true, false, IsTrue, IfNone, None, map, length};
+ghost use Rattle.std.specs.Prelude.{◌≡◌, ◌<◌, ◌≤◌, ◌↔◌, ℕ, true, false, IsTrue, IfNone, None, map, length, get_or};
 ghost use Rattle.std.specs.List.{All};
 ghost use Rattle.candidate_order.specs.CandidateList.{moves_of_replica};
 ghost use Rattle.candidate_order.specs.Known.{FindsFirst, IsRowFor, IsScanFor, StepFor, weight_for, weights_for};
-ghost use Rattle.candidate_order.specs.Looks.{helps_below_alone, may_help};
+ghost use Rattle.candidate_order.specs.Looks.{helps_below_alone, is_below, may_help};
+ghost use Rattle.candidate_order.specs.Rests.{TargetsRestFor};
 ghost use Rattle.candidate_order.specs.declared.kept.Row.{Row};
 ghost use Rattle.plan_terms.specs.Belongs.{IsBookOf};
 ghost use Rattle.plan_terms.specs.Cluster.{Lists, some_broker};
@@ -13,8 +14,9 @@ ghost use Rattle.plan_terms.specs.Legal.{is_legal};
 ghost use Rattle.plan_terms.specs.States.{is_new};
 ghost use Rattle.plan_terms.specs.declared.actions.Action.{Action};
 
-use crate::kept::{Row, Scan, none_below};
+use crate::kept::{Row, Scan, is_below, none_below};
 use crate::looks::{all_pass, may_leave};
+use crate::rests::Rests;
 use goal_terms::Heat;
 use load_model::{Case, LoadBook};
 use move_actions::{Goal, legal};
@@ -125,13 +127,59 @@ fn move_serves<G: Goal>(
     others_accept(case, book, earlier, part, action)
 }
 
-/// The first move of one replica to some brokers that serves, in their order.
+// Whether a move serves that isn't known not to.
+fn fresh_serves<G: Goal>(
+    case: &Case,
+    book: &LoadBook,
+    earlier: &[G],
+    goal: &G,
+    rests: &Rests,
+    since: u64,
+    part: u32,
+    source: &Row,
+    weights: &[u64],
+    own: Option<u64>,
+    target: &Row,
+) -> bool
+    // The goals and the book are of the case.
+    requires made { All (λ g. G.made_for g case.now) earlier.now }
+    requires made_goal { G.made_for goal.now case.now }
+    requires belongs { IsBookOf case.now book.now }
+    // What is known of the replica's moves.
+    requires brokers { length rests.now.brokers.items ≡ length case.now.brokers }
+    requires rest { TargetsRestFor G.Goal case.now book.now.lists earlier.now goal.now rests.now
+        source.now.id part since }
+    // The partition, its source and its weights.
+    requires part { part < length case.now.parts }
+    requires source { IsRowFor G.Goal case.now book.now.lists earlier.now goal.now source.now }
+    requires weights { weights.now
+        ≡ weights_for G.Goal case.now book.now.lists part source.now.id earlier.now }
+    requires own { own ≡ weight_for G.Goal case.now book.now.lists part source.now.id goal.now }
+    // The target.
+    requires target { IsRowFor G.Goal case.now book.now.lists earlier.now goal.now target.now }
+    // Whether the move serves.
+    ensures { IsTrue result
+        ↔ StepFor G.Goal case.now book.now.lists earlier.now goal.now
+        (Action.Move part source.now.id target.now.id) }
+{
+    if rests.knows_move(case, book, earlier, goal, part, source.id, since, target) {
+        return false;
+    }
+    move_serves(
+        case, book, earlier, goal, part, source, weights, own, target,
+    )
+}
+
+/// The first move of one replica to some brokers that serves, in their order. Those that are known
+/// not to serve are passed over.
 pub fn first_to<G: Goal>(
     case: &Case,
     book: &LoadBook,
     earlier: &[G],
     goal: &G,
     rows: &[Row],
+    rests: &Rests,
+    since: u64,
     part: u32,
     source: &Row,
     weights: &[u64],
@@ -143,6 +191,10 @@ pub fn first_to<G: Goal>(
     requires belongs { IsBookOf case.now book.now }
     // The targets.
     requires rows { All (IsRowFor G.Goal case.now book.now.lists earlier.now goal.now) rows.now }
+    // What is known of the replica's moves.
+    requires brokers { length rests.now.brokers.items ≡ length case.now.brokers }
+    requires rest { TargetsRestFor G.Goal case.now book.now.lists earlier.now goal.now rests.now
+        source.now.id part since }
     // The partition, its source and its weights.
     requires part { part < length case.now.parts }
     requires source { IsRowFor G.Goal case.now book.now.lists earlier.now goal.now source.now }
@@ -161,7 +213,9 @@ pub fn first_to<G: Goal>(
         return None;
     }
     for row in rows {
-        if move_serves(case, book, earlier, goal, part, source, weights, own, row) {
+        if fresh_serves(
+            case, book, earlier, goal, rests, since, part, source, weights, own, row,
+        ) {
             return Some(Action::Move {
                 part,
                 from: source.id,
@@ -225,6 +279,72 @@ pub(crate) fn gives_in_vain<G: Goal>(
     none_below(below)
 }
 
+// Whether a broker lies below its bounds and was touched at that time or later.
+fn is_fresh_below(rests: &Rests, row: &Row, since: u64) -> bool
+    requires { row.now.place < length rests.now.brokers.items }
+    ensures { result ≡ false → is_below row.now.heat ≡ true
+        → get_or rests.now.brokers.items row.now.place 0 < since }
+{
+    if !is_below(row.heat) {
+        return false;
+    }
+    if rests.brokers[row.place] < since {
+        return false;
+    }
+    true
+}
+
+// The time, unless one of some brokers that lies below its bounds was touched then or later. There it
+// is 0.
+fn since_unless_fresh(rests: &Rests, rows: &[Row], since: u64) -> u64
+    requires { All (λ (r : Row). r.place < length rests.now.brokers.items) rows.now }
+    ensures within { result ≤ since }
+    ensures none { 0 < result
+        → All (λ (r : Row). is_below r.heat ≡ true → get_or rests.now.brokers.items r.place 0 < since)
+        rows.now }
+{
+    for row in rows {
+        if is_fresh_below(rests, row, since) {
+            return 0;
+        }
+    }
+    since
+}
+
+// Since what time an action has to have touched a partition, or no move of the broker's replica of it
+// can help: the broker gives to those that lie below their bounds alone, and none of these was touched
+// since its moves were found not to serve.
+pub(crate) fn gives_in_vain_since<G: Goal>(
+    case: &Case,
+    book: &LoadBook,
+    earlier: &[G],
+    goal: &G,
+    scan: &Scan,
+    source: &Row,
+) -> u64
+    requires made_goal { G.made_for goal.now case.now }
+    requires belongs { IsBookOf case.now book.now }
+    requires scan { IsScanFor G.Goal case.now book.now.lists earlier.now goal.now scan.now }
+    requires source { IsRowFor G.Goal case.now book.now.lists earlier.now goal.now source.now }
+    ensures { (part : ℕ) → part < length case.now.parts
+        → get_or scan.now.rests.parts.items part 0 < result
+        → FindsFirst G.Goal case.now book.now.lists earlier.now goal.now
+        (moves_of_replica case.now source.now.id part) None }
+{
+    let _brokers = case.brokers();
+    if !helps_below_alone(goal.whole(case, book), source.heat) {
+        return 0;
+    }
+    let rests = &scan.rests;
+    let since = rests.moves_since(case, book, earlier, goal, source);
+    if gives_to_new(case, source.id) {
+        let added = scan.added.as_slice();
+        return since_unless_fresh(rests, added, since);
+    }
+    let below = scan.below.as_slice();
+    since_unless_fresh(rests, below, since)
+}
+
 /// The first move of one replica that serves, by the order of the brokers.
 pub fn first_anywhere<G: Goal>(
     case: &Case,
@@ -254,14 +374,22 @@ pub fn first_anywhere<G: Goal>(
         (moves_of_replica case.now source.now.id part) result }
 {
     let _brokers = case.brokers();
+    let rests = &scan.rests;
+    let since = rests.replica_since(case, book, earlier, goal, part, source);
     if gives_to_new(case, source.id) {
         let added = scan.added.as_slice();
-        return first_to(case, book, earlier, goal, added, part, source, weights, own);
+        return first_to(
+            case, book, earlier, goal, added, rests, since, part, source, weights, own,
+        );
     }
     if !helps_below_alone(own, source.heat) {
         let rows = scan.rows.as_slice();
-        return first_to(case, book, earlier, goal, rows, part, source, weights, own);
+        return first_to(
+            case, book, earlier, goal, rows, rests, since, part, source, weights, own,
+        );
     }
     let below = scan.below.as_slice();
-    first_to(case, book, earlier, goal, below, part, source, weights, own)
+    first_to(
+        case, book, earlier, goal, below, rests, since, part, source, weights, own,
+    )
 }

@@ -7,7 +7,7 @@ use Rattle.cc_base.specs.Outside.{HasRisen}
 use Rattle.cluster_json.specs.Faults.{Fault}
 use Rattle.cluster_json.specs.File.{Meaning}
 use Rattle.control_core.specs.Books.{BookView}
-use Rattle.live_service.specs.Asked.{ServingAsked}
+use Rattle.live_service.specs.Asked.{ServingAsked, offering}
 use Rattle.live_service.specs.Boards.{BoardCallerView}
 use Rattle.live_service.specs.Fronts.{HasAnswered, HasAnsweredNet, IsUnheard}
 use Rattle.live_service.specs.Lanes.{IsGivenUp, IsLaneRun, LaneRun, any_failed}
@@ -22,6 +22,7 @@ use Rattle.mover_rounds.specs.Owned.{known_by_owner}
 use Rattle.mover_rounds.specs.declared.drains.DrainEnd.{DrainEnd}
 use Rattle.mover_rounds.specs.declared.drains.DrainEnd.TheVariants as drain
 use Rattle.rest_session.specs.Answered.{end_of}
+use Rattle.rest_session.specs.Heard.{SiteView}
 use Rattle.rest_session.specs.declared.session.LinkEnd.{LinkEnd}
 use Rattle.rest_session.specs.declared.session.LinkEnd.TheVariants as link
 use Rattle.rest_stream.specs.Stream.{Requests, stopped}
@@ -57,11 +58,11 @@ called words copiers call (inr many) =
 risen_from_none : (before now : ℕ) → before ≡ 0 → HasRisenBy tries before now → 1 ≤ now
 risen_from_none before now none risen = omega (arith, none, risen)
 
-handle_failed : (file : Meaning) (reviews : Bool) (rs : List LaneRun) → AllByRecursion (IsLaneRun file reviews) rs → any_failed (map (λ r. r.lane) rs) ≡ true → HasHandleFailed (map (λ r. r.lane) rs)
-handle_failed file reviews [] h e = absurd cc
-handle_failed file reviews (r ∷ rs) h e = elim (cases_Bool r.lane.failed) [
+handle_failed : (file : Meaning) (site : SiteView) (reviews : Bool) (rs : List LaneRun) → AllByRecursion (IsLaneRun file site reviews) rs → any_failed (map (λ r. r.lane) rs) ≡ true → HasHandleFailed (map (λ r. r.lane) rs)
+handle_failed file site reviews [] h e = absurd cc
+handle_failed file site reviews (r ∷ rs) h e = elim (cases_Bool r.lane.failed) [
   | inl yes_ ↦ inl (risen_from_none r.before.faults r.lane.net.faults h.0.unused.0 (h.0.served.failed yes_))
-  | inr no_ ↦ inr (handle_failed file reviews rs h.1 (rw no_ at e))
+  | inr no_ ↦ inr (handle_failed file site reviews rs h.1 (rw no_ at e))
 ]
 
 module _ {A : Type 0} (gate : Gate A) (words : List (List ℕ)) (files : Shelf) (o : OutsideView) (admin : A) (l : LeftView A) where
@@ -122,7 +123,7 @@ module _ {A : Type 0} (gate : Gate A) (words : List (List ℕ)) (files : Shelf) 
 
     net_failed : (b : Bool) (s : ServingAsked) → HasAnsweredNet b file s x y f g front.ListenerFault k j v w → NetFailed f.net.faults g.net.faults g.lanes
     net_failed false s h = inl (has_risen s.address h.1.why)
-    net_failed true s h = given_up s.address (λ failed. rw h.0.served.lanes_are (handle_failed file x.reviews h.0.served.runs h.0.served.are (rw h.0.served.lanes_are at failed))) h.1.why
+    net_failed true s h = given_up s.address (λ failed. rw h.0.served.lanes_are (handle_failed file (offering s.page) x.reviews h.0.served.runs h.0.served.are (rw h.0.served.lanes_are at failed))) h.1.why
 
     unlistened : (s : Option ServingAsked) → Answered s front.ListenerFault → NetFailed f.net.faults g.net.faults g.lanes
     unlistened (Some s) h = net_failed s.forever s h

@@ -114,7 +114,7 @@ IsFew c = (c.movers ≤ 64) × (c.planners ≤ 4) × (links_in c.serving ≤ 64)
 lived : (a : words.Asked) (l : LiveAsked) → Holds a → live_of a ≡ Some l → IsFew l.crew
 lived (words.session o) l h e = let same : record { file = o.file; crew = record { movers = o.workers.movers; planners = o.workers.planners; serving = None; reviews = o.review } } ≡ l = cc in subst (λ (x : LiveAsked). IsFew x.crew) same (h.0, h.1, omega arith)
 lived (words.serve o) l h e =
-    let same : record { file = o.file; crew = record { movers = o.workers.movers; planners = o.workers.planners; serving = Some (record { address = o.listen; links = o.links; forever = o.forever }); reviews = o.review } } ≡ l = cc in
+    let same : record { file = o.file; crew = record { movers = o.workers.movers; planners = o.workers.planners; serving = Some (record { address = o.listen; links = o.links; forever = o.forever; page = o.page }); reviews = o.review } } ≡ l = cc in
     subst (λ (x : LiveAsked). IsFew x.crew) same (h.0.0, h.0.1, h.1)
 lived _ l h e = absurd cc
 

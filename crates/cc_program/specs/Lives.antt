@@ -42,7 +42,7 @@ crew_with workers serving reviews = record { movers = workers.movers; planners =
 
 abbrev pub live_of : words.Asked → Option LiveAsked
 live_of (words.session o) = Some (record { file = o.file; crew = crew_with o.workers None o.review })
-live_of (words.serve o) = Some (record { file = o.file; crew = crew_with o.workers (Some (record { address = o.listen; links = o.links; forever = o.forever })) o.review })
+live_of (words.serve o) = Some (record { file = o.file; crew = crew_with o.workers (Some (record { address = o.listen; links = o.links; forever = o.forever; page = o.page })) o.review })
 live_of _ = None
 
 -- what the words ask of a run with threads

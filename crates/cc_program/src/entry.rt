@@ -23,6 +23,8 @@ use std::process::ExitCode;
 use std::sync::Wait;
 use std::thread::Threads;
 
+// One for each of 64 movers and 64 links, the most that words can ask for, and one for the console
+// and the drain.
 const COPIERS: usize = 129;
 
 /// What is left of a run over a cluster in memory.
@@ -55,16 +57,11 @@ pub fn end_without_memory<O: Sink>(err: &mut O) -> ExitCode
     exit_code(conclude(err, &End::Memory, None))
 }
 
-// A copier in memory for each of 64 movers and 64 links, the most that words can ask for, and one
-// for the console and the drain.
-fn copiers(alloc: Global) -> Result<Vec<MemoryCopier>, Memory>
-    ensures { IfOk result (λ made. vec_len made ≡ 129) }
+// So many copiers in memory.
+fn copiers(alloc: Global, count: usize) -> Result<Vec<MemoryCopier>, Memory>
+    ensures { IfOk result (λ made. vec_len made ≡ count) }
 {
-    Ok(
-        (0..COPIERS)
-            .map(|_| MemoryCopier::new(alloc))
-            .collect(alloc)?,
-    )
+    Ok((0..count).map(|_| MemoryCopier::new(alloc)).collect(alloc)?)
 }
 
 // The console and the listener, where no run with threads began.
@@ -108,7 +105,7 @@ where
         (link_of L.left L.written L.Source.faults L.Sink.faults console)
         (net_of N.faults N.accepted N.heard listener) result.1 end }
 {
-    let Ok(copiers) = copiers(alloc) else {
+    let Ok(copiers) = copiers(alloc, COPIERS) else {
         return (end_without_memory(err), lent(alloc, console, listener));
     };
     let outside = Outside {

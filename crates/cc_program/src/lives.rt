@@ -25,7 +25,7 @@ use live_service::{
 use mover_rounds::DrainEnd;
 use mover_workers::LoopEnd;
 use net_links::Listener;
-use quiet_commands::{End, LoadFault, Request, conclude, drained_end, ended_by, load};
+use quiet_commands::{End, LoadFault, conclude, drained_end, ended_by, load_file};
 use rest_session::SessionEnd;
 use review_board::Board;
 use std::alloc::Global;
@@ -58,22 +58,34 @@ fn read_live(alloc: Global, words: &[String]) -> Result<LiveRequest, WordsFault>
         → live_command (map string_bytes words.now) ≡ None) }
 {
     match read_words(alloc, words)? {
-        Command::Session(options) => Ok(LiveRequest {
-            file: options.file,
-            crew: crew_of(options.workers, None, options.review),
+        Command::Session {
+            file,
+            workers,
+            review,
+        } => Ok(LiveRequest {
+            file,
+            crew: crew_of(workers, None, review),
         }),
-        Command::Serve(options) => Ok(LiveRequest {
-            file: options.file,
-            crew: crew_of(
-                options.workers,
-                Some(Serving {
-                    address: options.listen,
-                    links: options.links,
-                    forever: options.forever,
-                }),
-                options.review,
-            ),
-        }),
+        Command::Serve {
+            file,
+            workers,
+            listen,
+            links,
+            review,
+            forever,
+            page,
+        } => {
+            let serving = Serving {
+                address: listen,
+                links,
+                forever,
+                page,
+            };
+            Ok(LiveRequest {
+                file,
+                crew: crew_of(workers, Some(serving), review),
+            })
+        }
         _ => Err(WordsFault::Usage),
     }
 }
@@ -423,11 +435,7 @@ where
         Err(WordsFault::Usage) => return (End::Usage, Left::idle(alloc, Some(admin), outside)),
         Err(WordsFault::Memory) => return (End::Memory, Left::idle(alloc, Some(admin), outside)),
     };
-    let source = Request::Session {
-        file,
-        review: crew.reviews,
-    };
-    match load(alloc, files, &source) {
+    match load_file(alloc, files, &file) {
         Ok(file) => begin(rt, alloc, file, admin, outside, crew),
         Err(LoadFault::Refused(line)) => (
             End::Refused(line),

@@ -68,6 +68,9 @@ review_rule = flag (codes "review")
 abbrev pub forever_rule : Rule
 forever_rule = flag (codes "forever")
 
+abbrev pub page_rule : Rule
+page_rule = flag (codes "page")
+
 abbrev pub plan_app : App
 plan_app = with_rule (with_rule (with_rule (with_rule (with_rule (new_app (codes "plan")) file_rule) goals_rule) skip_rule) excluded_rule) trace_flag_rule
 
@@ -84,7 +87,7 @@ abbrev pub session_app : App
 session_app = with_rule (with_rule (with_rule (with_rule (new_app (codes "session")) file_rule) movers_rule) planners_rule) review_rule
 
 abbrev pub serve_app : App
-serve_app = with_rule (with_rule (with_rule (with_rule (with_rule (with_rule (with_rule (new_app (codes "serve")) file_rule) movers_rule) planners_rule) listen_rule) links_rule) review_rule) forever_rule
+serve_app = with_rule (with_rule (with_rule (with_rule (with_rule (with_rule (with_rule (with_rule (new_app (codes "serve")) file_rule) movers_rule) planners_rule) listen_rule) links_rule) review_rule) forever_rule) page_rule
 
 -- the program: no name of its own stands before the command, and a command has to stand there
 abbrev pub program : App

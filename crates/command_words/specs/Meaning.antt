@@ -5,15 +5,9 @@ use Rattle.clap.specs.Words.{Kinds, Row, Text, fault_of, first_of, subcommand_of
 use Rattle.plan_terms.specs.Digits.{whole_of}
 use Rattle.command_words.specs.Arguments.{the_app}
 use Rattle.command_words.specs.Names.{names_of}
-use Rattle.command_words.specs.declared.commands.ApplyOptions.{ApplyOptions}
-use Rattle.command_words.specs.declared.commands.CheckOptions.{CheckOptions}
 use Rattle.command_words.specs.declared.commands.Command.{Command}
 use Rattle.command_words.specs.declared.commands.Command.TheVariants as command
-use Rattle.command_words.specs.declared.commands.GenOptions.{GenOptions}
 use Rattle.command_words.specs.declared.commands.Goals.{Goals}
-use Rattle.command_words.specs.declared.commands.PlanOptions.{PlanOptions}
-use Rattle.command_words.specs.declared.commands.ServeOptions.{ServeOptions}
-use Rattle.command_words.specs.declared.commands.SessionOptions.{SessionOptions}
 use Rattle.command_words.specs.declared.commands.Workers.{Workers}
 
 -- which goals to plan for: their names, none for the default list; and whether hard goals may be absent
@@ -62,6 +56,7 @@ pub record ServeAsked : Type 0 where
   pub links : ℕ
   pub review : Bool
   pub forever : Bool
+  pub page : Bool
 
 -- what is asked
 pub data Asked : Type 0 where
@@ -161,6 +156,10 @@ session_of rows = option_and_then (λ file. option_map (session_with rows file) 
 abbrev pub forever_of : List Row → Bool
 forever_of rows = is_given (first_of (codes "forever") rows)
 
+-- there is a page
+abbrev pub page_of : List Row → Bool
+page_of rows = is_given (first_of (codes "page") rows)
+
 -- 1 to 64 links; where no number is given, 16 where they are accepted without end, and else 1
 abbrev pub links_asked : Bool → Option Text → Option ℕ
 links_asked forever None = Some (if forever then 16 else 1)
@@ -177,6 +176,7 @@ serve_with rows file workers listen links = record {
   links = links;
   review = review_of rows;
   forever = forever_of rows;
+  page = page_of rows;
 }
 
 abbrev pub serve_of : List Row → Option ServeAsked
@@ -207,38 +207,14 @@ meaning words = unless_refused (fault_of the_app words) (option_and_then asked_o
 abbrev pub goals_view : Goals → GoalsAsked
 goals_view g = record { names = g.names.items; skip_hard_goal_check = g.skip_hard_goal_check }
 
-abbrev pub plan_view : PlanOptions → PlanAsked
-plan_view o = record { file = string_bytes o.file; goals = goals_view o.goals; excluded_topics = o.excluded_topics.items; trace = o.trace }
-
-abbrev pub check_view : CheckOptions → CheckAsked
-check_view o = record { file = string_bytes o.file; trace = string_bytes o.trace; goals = goals_view o.goals; excluded_topics = o.excluded_topics.items }
-
-abbrev pub apply_view : ApplyOptions → ApplyAsked
-apply_view o = record { file = string_bytes o.file; goals = goals_view o.goals; excluded_topics = o.excluded_topics.items }
-
-abbrev pub gen_view : GenOptions → GenAsked
-gen_view o = record { seed = o.seed; goals = goals_view o.goals; file = o.file; brokers = o.brokers; partitions = o.partitions }
-
 abbrev pub workers_view : Workers → WorkersAsked
 workers_view w = record { movers = w.movers; planners = w.planners }
 
-abbrev pub session_view : SessionOptions → SessionAsked
-session_view o = record { file = string_bytes o.file; workers = workers_view o.workers; review = o.review }
-
-abbrev pub serve_view : ServeOptions → ServeAsked
-serve_view o = record {
-  file = string_bytes o.file;
-  workers = workers_view o.workers;
-  listen = string_bytes o.listen;
-  links = o.links;
-  review = o.review;
-  forever = o.forever;
-}
-
 abbrev pub told : Command → Asked
-told (command.Plan o) = plan (plan_view o)
-told (command.Check o) = check (check_view o)
-told (command.Apply o) = apply (apply_view o)
-told (command.Gen o) = gen (gen_view o)
-told (command.Session o) = session (session_view o)
-told (command.Serve o) = serve (serve_view o)
+told (command.Plan file goals excluded trace) = plan (record { file = string_bytes file; goals = goals_view goals; excluded_topics = excluded.items; trace = trace })
+told (command.Check file trace goals excluded) = check (record { file = string_bytes file; trace = string_bytes trace; goals = goals_view goals; excluded_topics = excluded.items })
+told (command.Apply file goals excluded) = apply (record { file = string_bytes file; goals = goals_view goals; excluded_topics = excluded.items })
+told (command.Gen seed brokers partitions goals whole) = gen (record { seed = seed; goals = goals_view goals; file = whole; brokers = brokers; partitions = partitions })
+told (command.Session file workers review) = session (record { file = string_bytes file; workers = workers_view workers; review = review })
+told (command.Serve file workers listen links review forever page) =
+    serve (record { file = string_bytes file; workers = workers_view workers; listen = string_bytes listen; links = links; review = review; forever = forever; page = page })

@@ -1,7 +1,7 @@
 // The operands and options, each told to clap by a function of its own.
 ghost use Rattle.std.specs.Prelude.{◌≡◌, false};
 ghost use Rattle.clap.specs.Words.{rule_of};
-ghost use Rattle.command_words.specs.Arguments.{brokers_rule, excluded_rule, file_flag_rule, file_rule, forever_rule, goals_rule, links_rule, listen_rule, movers_rule, partitions_rule, planners_rule, review_rule, seed_rule, skip_rule, trace_file_rule, trace_flag_rule};
+ghost use Rattle.command_words.specs.Arguments.{brokers_rule, excluded_rule, file_flag_rule, file_rule, forever_rule, goals_rule, links_rule, listen_rule, movers_rule, page_rule, partitions_rule, planners_rule, review_rule, seed_rule, skip_rule, trace_file_rule, trace_flag_rule};
 
 use clap::{Arg, ArgAction};
 use std::alloc::Global;
@@ -149,5 +149,15 @@ pub fn forever<'a>(alloc: Global) -> Arg<'a>
 {
     Arg::new(alloc, "forever")
         .long("forever")
+        .action(ArgAction::SetTrue)
+}
+
+/// `--page`.
+pub fn page<'a>(alloc: Global) -> Arg<'a>
+    ensures rule { rule_of result ≡ page_rule }
+    ensures local { result.global ≡ false }
+{
+    Arg::new(alloc, "page")
+        .long("page")
         .action(ArgAction::SetTrue)
 }

@@ -78,7 +78,8 @@ fn serve_command<'a>(alloc: Global) -> Result<Command<'a>, AllocError>
     let with_listen = with_planners.arg(arguments::listen(alloc))?;
     let with_links = with_listen.arg(arguments::links(alloc))?;
     let with_review = with_links.arg(arguments::review(alloc))?;
-    with_review.arg(arguments::forever(alloc))
+    let with_forever = with_review.arg(arguments::forever(alloc))?;
+    with_forever.arg(arguments::page(alloc))
 }
 
 /// The program with its six commands.

@@ -12,52 +12,6 @@ pub struct Goals {
     pub skip_hard_goal_check: bool,
 }
 
-/// The options of `plan`.
-#[derive(Drop)]
-pub struct PlanOptions {
-    /// The name of the cluster file.
-    pub file: String,
-    pub goals: Goals,
-    /// No replica and no leadership of these topics moves without need.
-    pub excluded_topics: Vec<Topic>,
-    /// The trace is written in place of the plan.
-    pub trace: bool,
-}
-
-/// The options of `check`.
-#[derive(Drop)]
-pub struct CheckOptions {
-    /// The name of the cluster file.
-    pub file: String,
-    /// The name of the trace's file.
-    pub trace: String,
-    pub goals: Goals,
-    pub excluded_topics: Vec<Topic>,
-}
-
-/// The options of `apply`.
-#[derive(Drop)]
-pub struct ApplyOptions {
-    /// The name of the cluster file.
-    pub file: String,
-    pub goals: Goals,
-    pub excluded_topics: Vec<Topic>,
-}
-
-/// The options of `gen`.
-#[derive(Drop)]
-pub struct GenOptions {
-    /// Below 2^31.
-    pub seed: u32,
-    pub goals: Goals,
-    /// The cluster file is written in place of the summary.
-    pub file: bool,
-    /// 1 to 200.
-    pub brokers: u32,
-    /// 0 to 10,000.
-    pub partitions: u32,
-}
-
 /// How many movers and planners work beside those who ask.
 #[derive(Clone, Copy, Debug, PartialEq, Eq)]
 pub struct Workers {
@@ -67,41 +21,60 @@ pub struct Workers {
     pub planners: u32,
 }
 
-/// The options of `session`.
-#[derive(Drop)]
-pub struct SessionOptions {
-    /// The name of the cluster file.
-    pub file: String,
-    pub workers: Workers,
-    /// What starts something is reviewed first.
-    pub review: bool,
-}
-
-/// The options of `serve`.
-#[derive(Drop)]
-pub struct ServeOptions {
-    /// The name of the cluster file.
-    pub file: String,
-    pub workers: Workers,
-    /// The address and the port to listen at. Any text: the listener reads it.
-    pub listen: String,
-    /// How many links are served, in all or at once: 1 to 64.
-    pub links: u32,
-    /// What starts something is reviewed first.
-    pub review: bool,
-    /// Links are accepted without end, so many at once, until a request asks for the end.
-    pub forever: bool,
-}
-
-/// A command with its options.
+/// A command with its options. A file is the name of a cluster file, and no replica and no leadership
+/// of excluded topics moves without need.
 #[derive(Drop)]
 pub enum Command {
-    Plan(PlanOptions),
-    Check(CheckOptions),
-    Apply(ApplyOptions),
-    Gen(GenOptions),
-    Session(SessionOptions),
-    Serve(ServeOptions),
+    Plan {
+        file: String,
+        goals: Goals,
+        excluded_topics: Vec<Topic>,
+        /// The trace is written in place of the plan.
+        trace: bool,
+    },
+    Check {
+        file: String,
+        /// The name of the trace's file.
+        trace: String,
+        goals: Goals,
+        excluded_topics: Vec<Topic>,
+    },
+    Apply {
+        file: String,
+        goals: Goals,
+        excluded_topics: Vec<Topic>,
+    },
+    Gen {
+        /// Below 2^31.
+        seed: u32,
+        /// 1 to 200.
+        brokers: u32,
+        /// 0 to 10,000.
+        partitions: u32,
+        goals: Goals,
+        /// The cluster file is written in place of the summary.
+        whole: bool,
+    },
+    Session {
+        file: String,
+        workers: Workers,
+        /// What starts something is reviewed first.
+        review: bool,
+    },
+    Serve {
+        file: String,
+        workers: Workers,
+        /// The address and the port to listen at. Any text: the listener reads it.
+        listen: String,
+        /// How many links are served, in all or at once: 1 to 64.
+        links: u32,
+        /// What starts something is reviewed first.
+        review: bool,
+        /// Links are accepted without end, so many at once, until a request asks for the end.
+        forever: bool,
+        /// There is a page, at `/`.
+        page: bool,
+    },
 }
 
 /// Why words give no command.

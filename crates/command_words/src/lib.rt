@@ -10,9 +10,6 @@ mod options;
 mod values;
 mod words;
 
-pub use commands::{
-    ApplyOptions, CheckOptions, Command, GenOptions, Goals, PlanOptions, ServeOptions,
-    SessionOptions, WordsFault, Workers,
-};
+pub use commands::{Command, Goals, WordsFault, Workers};
 pub use live::wants_live;
 pub use words::read_words;

@@ -1,13 +1,11 @@
-// The options of each command, from what clap found in its words.
+// The commands with their options, from what clap found in their words.
 ghost use Rattle.std.specs.Prelude.{◌≡◌, IfOk, option_and_then, option_map};
 ghost use Rattle.clap.specs.Words.{found_of, rows_of, subcommand_rows_of};
 ghost use Rattle.command_words.specs.Names.{names_of};
-ghost use Rattle.command_words.specs.Meaning.{apply_of, apply_view, asked_of, check_of, check_view, excluded_of, forever_of, gen_of, gen_view, goals_of, goals_view, links_of, plan_of, plan_view, review_of, serve_of, serve_view, session_of, session_view, told, workers_of, workers_view};
+ghost use Rattle.command_words.specs.Meaning as words;
+ghost use Rattle.command_words.specs.Meaning.{apply_of, asked_of, check_of, excluded_of, forever_of, gen_of, goals_of, goals_view, links_of, page_of, plan_of, review_of, serve_of, session_of, told, workers_of, workers_view};
 
-use crate::commands::{
-    ApplyOptions, CheckOptions, Command, GenOptions, Goals, PlanOptions, ServeOptions,
-    SessionOptions, Workers,
-};
+use crate::commands::{Command, Goals, Workers};
 use crate::values::{is_given, number_in};
 use clap::ArgMatches;
 use plan_terms::{Name, Topic, names};
@@ -41,13 +39,14 @@ fn excluded_topics(alloc: Global, found: &ArgMatches<'_>) -> Result<Vec<Topic>, 
 }
 
 #[tactic(auto, using(crate::proofs::Rows::first_text))]
-fn plan_options(alloc: Global, found: &ArgMatches<'_>) -> Result<Option<PlanOptions>, AllocError>
-    ensures { IfOk result (λ o. option_map plan_view o ≡ plan_of (rows_of (found_of found.now))) }
+fn plan_command(alloc: Global, found: &ArgMatches<'_>) -> Result<Option<Command>, AllocError>
+    ensures { IfOk result
+        (λ o. option_map told o ≡ option_map words.plan (plan_of (rows_of (found_of found.now)))) }
 {
     let Some(file) = found.get_str("FILE") else {
         return Ok(None);
     };
-    Ok(Some(PlanOptions {
+    Ok(Some(Command::Plan {
         file: String::from_str(alloc, file)?,
         goals: goals(alloc, found)?,
         excluded_topics: excluded_topics(alloc, found)?,
@@ -56,8 +55,9 @@ fn plan_options(alloc: Global, found: &ArgMatches<'_>) -> Result<Option<PlanOpti
 }
 
 #[tactic(auto, using(crate::proofs::Rows::first_text))]
-fn check_options(alloc: Global, found: &ArgMatches<'_>) -> Result<Option<CheckOptions>, AllocError>
-    ensures { IfOk result (λ o. option_map check_view o ≡ check_of (rows_of (found_of found.now))) }
+fn check_command(alloc: Global, found: &ArgMatches<'_>) -> Result<Option<Command>, AllocError>
+    ensures { IfOk result
+        (λ o. option_map told o ≡ option_map words.check (check_of (rows_of (found_of found.now)))) }
 {
     let Some(file) = found.get_str("FILE") else {
         return Ok(None);
@@ -65,7 +65,7 @@ fn check_options(alloc: Global, found: &ArgMatches<'_>) -> Result<Option<CheckOp
     let Some(trace) = found.get_str("TRACE") else {
         return Ok(None);
     };
-    Ok(Some(CheckOptions {
+    Ok(Some(Command::Check {
         file: String::from_str(alloc, file)?,
         trace: String::from_str(alloc, trace)?,
         goals: goals(alloc, found)?,
@@ -74,13 +74,14 @@ fn check_options(alloc: Global, found: &ArgMatches<'_>) -> Result<Option<CheckOp
 }
 
 #[tactic(auto, using(crate::proofs::Rows::first_text))]
-fn apply_options(alloc: Global, found: &ArgMatches<'_>) -> Result<Option<ApplyOptions>, AllocError>
-    ensures { IfOk result (λ o. option_map apply_view o ≡ apply_of (rows_of (found_of found.now))) }
+fn apply_command(alloc: Global, found: &ArgMatches<'_>) -> Result<Option<Command>, AllocError>
+    ensures { IfOk result
+        (λ o. option_map told o ≡ option_map words.apply (apply_of (rows_of (found_of found.now)))) }
 {
     let Some(file) = found.get_str("FILE") else {
         return Ok(None);
     };
-    Ok(Some(ApplyOptions {
+    Ok(Some(Command::Apply {
         file: String::from_str(alloc, file)?,
         goals: goals(alloc, found)?,
         excluded_topics: excluded_topics(alloc, found)?,
@@ -88,8 +89,9 @@ fn apply_options(alloc: Global, found: &ArgMatches<'_>) -> Result<Option<ApplyOp
 }
 
 #[tactic(auto, using(crate::proofs::Rows::first_text))]
-fn gen_options(alloc: Global, found: &ArgMatches<'_>) -> Result<Option<GenOptions>, AllocError>
-    ensures { IfOk result (λ o. option_map gen_view o ≡ gen_of (rows_of (found_of found.now))) }
+fn gen_command(alloc: Global, found: &ArgMatches<'_>) -> Result<Option<Command>, AllocError>
+    ensures { IfOk result
+        (λ o. option_map told o ≡ option_map words.gen (gen_of (rows_of (found_of found.now)))) }
 {
     let Some(seed) = number_in(0, 2_147_483_647, found.get_str("SEED")) else {
         return Ok(None);
@@ -100,12 +102,12 @@ fn gen_options(alloc: Global, found: &ArgMatches<'_>) -> Result<Option<GenOption
     let Some(partitions) = number_in(0, 10_000, found.get_str("partitions")) else {
         return Ok(None);
     };
-    Ok(Some(GenOptions {
+    Ok(Some(Command::Gen {
         seed,
-        goals: goals(alloc, found)?,
-        file: is_given(found.get_str("file")),
         brokers,
         partitions,
+        goals: goals(alloc, found)?,
+        whole: is_given(found.get_str("file")),
     }))
 }
 
@@ -126,12 +128,9 @@ fn review(found: &ArgMatches<'_>) -> bool
 }
 
 #[tactic(auto, using(crate::proofs::Rows::first_text))]
-fn session_options(
-    alloc: Global,
-    found: &ArgMatches<'_>,
-) -> Result<Option<SessionOptions>, AllocError>
+fn session_command(alloc: Global, found: &ArgMatches<'_>) -> Result<Option<Command>, AllocError>
     ensures { IfOk result
-        (λ o. option_map session_view o ≡ session_of (rows_of (found_of found.now))) }
+        (λ o. option_map told o ≡ option_map words.session (session_of (rows_of (found_of found.now)))) }
 {
     let Some(file) = found.get_str("FILE") else {
         return Ok(None);
@@ -139,7 +138,7 @@ fn session_options(
     let Some(workers) = workers(found) else {
         return Ok(None);
     };
-    Ok(Some(SessionOptions {
+    Ok(Some(Command::Session {
         file: String::from_str(alloc, file)?,
         workers,
         review: review(found),
@@ -154,6 +153,13 @@ fn forever(found: &ArgMatches<'_>) -> bool
 }
 
 #[tactic(auto, using(crate::proofs::Rows::first_text))]
+fn page(found: &ArgMatches<'_>) -> bool
+    ensures { result ≡ page_of (rows_of (found_of found.now)) }
+{
+    is_given(found.get_str("page"))
+}
+
+#[tactic(auto, using(crate::proofs::Rows::first_text))]
 fn links(found: &ArgMatches<'_>) -> Option<u32>
     ensures { result ≡ links_of (rows_of (found_of found.now)) }
 {
@@ -165,8 +171,9 @@ fn links(found: &ArgMatches<'_>) -> Option<u32>
 }
 
 #[tactic(auto, using(crate::proofs::Rows::first_text))]
-fn serve_options(alloc: Global, found: &ArgMatches<'_>) -> Result<Option<ServeOptions>, AllocError>
-    ensures { IfOk result (λ o. option_map serve_view o ≡ serve_of (rows_of (found_of found.now))) }
+fn serve_command(alloc: Global, found: &ArgMatches<'_>) -> Result<Option<Command>, AllocError>
+    ensures { IfOk result
+        (λ o. option_map told o ≡ option_map words.serve (serve_of (rows_of (found_of found.now)))) }
 {
     let Some(file) = found.get_str("FILE") else {
         return Ok(None);
@@ -180,13 +187,14 @@ fn serve_options(alloc: Global, found: &ArgMatches<'_>) -> Result<Option<ServeOp
     let Some(links) = links(found) else {
         return Ok(None);
     };
-    Ok(Some(ServeOptions {
+    Ok(Some(Command::Serve {
         file: String::from_str(alloc, file)?,
         workers,
         listen: String::from_str(alloc, listen)?,
         links,
         review: review(found),
         forever: forever(found),
+        page: page(found),
     }))
 }
 
@@ -199,22 +207,22 @@ pub fn found_command(alloc: Global, found: &ArgMatches<'_>) -> Result<Option<Com
         return Ok(None);
     };
     if name == "plan" {
-        return Ok(plan_options(alloc, inner)?.map(Command::Plan));
+        return plan_command(alloc, inner);
     }
     if name == "check" {
-        return Ok(check_options(alloc, inner)?.map(Command::Check));
+        return check_command(alloc, inner);
     }
     if name == "apply" {
-        return Ok(apply_options(alloc, inner)?.map(Command::Apply));
+        return apply_command(alloc, inner);
     }
     if name == "gen" {
-        return Ok(gen_options(alloc, inner)?.map(Command::Gen));
+        return gen_command(alloc, inner);
     }
     if name == "session" {
-        return Ok(session_options(alloc, inner)?.map(Command::Session));
+        return session_command(alloc, inner);
     }
     if name == "serve" {
-        return Ok(serve_options(alloc, inner)?.map(Command::Serve));
+        return serve_command(alloc, inner);
     }
     Ok(None)
 }

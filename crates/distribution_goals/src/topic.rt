@@ -157,6 +157,7 @@ impl Goal for TopicReplicaDistributionGoal {
     ghost use Rattle.goal_terms.proofs.CaseLemmas.{Limits-case};
     ghost use Rattle.goal_terms.proofs.PairLemmas.{stirred-still_parts};
     ghost use Rattle.goal_terms.proofs.TopicGoalLemmas.{topic-fits_120_bits, topic-cold_pairs};
+    ghost use Rattle.goal_terms.proofs.VerdictLemmas.{topic-verdicts_stay};
 
     ghost meaning = { λ _ c. per_topic false
         (replica_rule (even c.options.topic_balance (units_of c))) c };
@@ -256,4 +257,8 @@ impl Goal for TopicReplicaDistributionGoal {
     ghost rooms_decide = { λ _ _ _ _ _ _. tt };
 
     ghost rooms_stay = { λ _ _ _ _ _ _ _ _ _ _ _. free };
+
+    ghost verdicts_stay = { λ _ c lists _ is_case fits. topic-verdicts_stay false
+        (replica_rule (even c.options.topic_balance (units_of c))) c lists (Limits-case c is_case)
+        fits };
 }

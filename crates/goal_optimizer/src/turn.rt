@@ -7,7 +7,7 @@ ghost use Rattle.plan_terms.specs.Belongs.{IsBookOf};
 ghost use Rattle.plan_terms.specs.Effect.{after_all};
 ghost use Rattle.plan_terms.specs.Trace.{Turn};
 
-use candidate_order::{Order, Scan, next_lessening};
+use candidate_order::{Order, Scan, next_in_turn};
 use load_model::{Case, LoadBook};
 use move_actions::{Goal, Moves};
 use plan_terms::{Actions, Memory};
@@ -47,11 +47,11 @@ pub fn take_turn<G: Goal + Sync, R: Threads + Sync>(
     let mut scan = Scan::new(alloc, case, book, earlier, goal)?;
     let mut actions = Actions::new(alloc);
     'scan: loop {
-        let next = next_lessening(rt, alloc, case, book, order, &mut scan, earlier, goal)?;
+        let next = next_in_turn(rt, alloc, case, book, order, &mut scan, earlier, goal)?;
         match next {
             None => return Ok(actions),
             Some(action) => {
-                scan.note(case, book, earlier, goal, action);
+                scan.step(case, book, earlier, goal, action);
                 order.after(case, book, action);
                 book.apply(case, action);
                 actions.push(action)?;

@@ -29,6 +29,8 @@ use Rattle.goal_terms.proofs.RoomLemmas.{broker-rooms_decide, broker-rooms_stay}
 use Rattle.goal_terms.specs.Rooms.{RoomsDecide, broker_room}
 use Rattle.goal_terms.proofs.PartitionGoals.{demoted_first-le, lost_members-le}
 use Rattle.goal_terms.proofs.PartitionHeat.{partition-still_parts}
+use Rattle.goal_terms.proofs.VerdictLemmas.{broker-verdicts_stay, topic-verdicts_stay, least-verdicts_stay, partition-verdicts_stay}
+use Rattle.goal_terms.specs.Verdicts.{VerdictsStay}
 use Rattle.goal_terms.proofs.TopicGoalLemmas.{topic-fits_120_bits, topic-cold_pairs}
 use Rattle.goal_set.specs.Kinds.{meaning_of}
 use Rattle.goal_set.specs.AnyMeaning.{any_heat, any_room, any_made, any_meaning, any_stirs, any_weights}
@@ -199,3 +201,24 @@ kind-rooms_stay kind.CpuUsageDistribution c lists belongs a fit b g t = broker-r
 kind-rooms_stay kind.TopicReplicaDistribution c lists belongs a fit b g t = refl
 kind-rooms_stay kind.LeaderReplicaDistribution c lists belongs a fit b g t = broker-rooms_stay leader_weights (even c.options.leader_balance (units_of c)) c lists a belongs fit b g t
 kind-rooms_stay kind.LeaderBytesInDistribution c lists belongs a fit b g t = broker-rooms_stay leader_in_weights (below_use (ratio_at c.options.balance NW_IN) NW_IN (whole_cap NW_IN c)) c lists a belongs fit b g t
+
+-- an action leaves what it says of every other that shares no broker and no partition with it
+pub kind-verdicts_stay : (k : GoalKind) (c : Cluster) (lists : Lists) → IsCase c → Belongs c lists → VerdictsStay (meaning_of k c) lists
+kind-verdicts_stay kind.Evacuation c lists is_case fits = partition-verdicts_stay true (lost_members c) c lists
+kind-verdicts_stay kind.RackAware c lists is_case fits = partition-verdicts_stay true (rack_excess c) c lists
+kind-verdicts_stay kind.MinTopicLeadersPerBroker c lists is_case fits = least-verdicts_stay c lists (Limits-case c is_case) fits
+kind-verdicts_stay kind.ReplicaCapacity c lists is_case fits = broker-verdicts_stay true replica_weights (at_most c.options.max_replicas) c lists (Limits-case c is_case) fits
+kind-verdicts_stay kind.DiskCapacity c lists is_case fits = broker-verdicts_stay true (load_weights DISK) (within_capacity (ratio_at c.options.limit DISK) DISK) c lists (Limits-case c is_case) fits
+kind-verdicts_stay kind.NetworkInboundCapacity c lists is_case fits = broker-verdicts_stay true (load_weights NW_IN) (within_capacity (ratio_at c.options.limit NW_IN) NW_IN) c lists (Limits-case c is_case) fits
+kind-verdicts_stay kind.NetworkOutboundCapacity c lists is_case fits = broker-verdicts_stay true (load_weights NW_OUT) (within_capacity (ratio_at c.options.limit NW_OUT) NW_OUT) c lists (Limits-case c is_case) fits
+kind-verdicts_stay kind.CpuCapacity c lists is_case fits = broker-verdicts_stay true (load_weights CPU) (within_capacity (ratio_at c.options.limit CPU) CPU) c lists (Limits-case c is_case) fits
+kind-verdicts_stay kind.Demotion c lists is_case fits = partition-verdicts_stay false (demoted_first c) c lists
+kind-verdicts_stay kind.ReplicaDistribution c lists is_case fits = broker-verdicts_stay false replica_weights (even c.options.replica_balance (units_of c)) c lists (Limits-case c is_case) fits
+kind-verdicts_stay kind.PotentialNwOut c lists is_case fits = broker-verdicts_stay false potential_out_weights (within_capacity (ratio_at c.options.limit NW_OUT) NW_OUT) c lists (Limits-case c is_case) fits
+kind-verdicts_stay kind.DiskUsageDistribution c lists is_case fits = broker-verdicts_stay false (load_weights DISK) (near_use (ratio_at c.options.balance DISK) DISK (whole_cap DISK c)) c lists (Limits-case c is_case) fits
+kind-verdicts_stay kind.NetworkInboundUsageDistribution c lists is_case fits = broker-verdicts_stay false (load_weights NW_IN) (near_use (ratio_at c.options.balance NW_IN) NW_IN (whole_cap NW_IN c)) c lists (Limits-case c is_case) fits
+kind-verdicts_stay kind.NetworkOutboundUsageDistribution c lists is_case fits = broker-verdicts_stay false (load_weights NW_OUT) (near_use (ratio_at c.options.balance NW_OUT) NW_OUT (whole_cap NW_OUT c)) c lists (Limits-case c is_case) fits
+kind-verdicts_stay kind.CpuUsageDistribution c lists is_case fits = broker-verdicts_stay false (load_weights CPU) (near_use (ratio_at c.options.balance CPU) CPU (whole_cap CPU c)) c lists (Limits-case c is_case) fits
+kind-verdicts_stay kind.TopicReplicaDistribution c lists is_case fits = topic-verdicts_stay false (replica_rule (even c.options.topic_balance (units_of c))) c lists (Limits-case c is_case) fits
+kind-verdicts_stay kind.LeaderReplicaDistribution c lists is_case fits = broker-verdicts_stay false leader_weights (even c.options.leader_balance (units_of c)) c lists (Limits-case c is_case) fits
+kind-verdicts_stay kind.LeaderBytesInDistribution c lists is_case fits = broker-verdicts_stay false leader_in_weights (below_use (ratio_at c.options.balance NW_IN) NW_IN (whole_cap NW_IN c)) c lists (Limits-case c is_case) fits

@@ -140,7 +140,7 @@ macro_rules! each_goal {
 }
 
 impl Goal for AnyGoal {
-    ghost use Rattle.goal_set.specs.AnyLaws.{any-small, kind-cold_pairs, kind-idle_trades, kind-rooms_decide, kind-rooms_stay, kind-still_parts};
+    ghost use Rattle.goal_set.specs.AnyLaws.{any-small, kind-cold_pairs, kind-idle_trades, kind-rooms_decide, kind-rooms_stay, kind-still_parts, kind-verdicts_stay};
 
     ghost meaning = { λ g c. any_meaning g c };
 
@@ -209,4 +209,7 @@ impl Goal for AnyGoal {
 
     ghost rooms_stay = { λ g c lists _ belongs a fit k not_giver not_taker. kind-rooms_stay
         (kind_of g) c lists belongs a fit k not_giver not_taker };
+
+    ghost verdicts_stay = { λ g c lists _ is_case fits. kind-verdicts_stay (kind_of g) c lists
+        is_case fits };
 }

@@ -20,3 +20,4 @@ pub mod TopicList
 pub mod TotalLemmas
 pub mod TradeLemmas
 pub mod UnitSums
+pub mod VerdictLemmas

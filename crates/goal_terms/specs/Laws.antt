@@ -22,7 +22,10 @@ use Rattle.goal_terms.specs.PerBroker.{Bounds, unit_brokers, bound_excess, per_b
 use Rattle.goal_terms.specs.PerTopic.{TopicRule, rule_weights, replica_rule, per_topic, first_topic, second_topic, topic_heat}
 use Rattle.goal_terms.specs.Quantity.{Weights, quantity, total, trade, Trades, replica_weights, leader_weights, load_weights, potential_out_weights, leader_in_weights, topic_weights}
 use Rattle.goal_terms.specs.Rooms.{RoomsDecide, broker_room}
+use Rattle.goal_terms.specs.LeastLeaders.{least_leaders_goal}
 use Rattle.goal_terms.specs.Sides.{sides}
+use Rattle.goal_terms.specs.Verdicts.{AreApart, HaveOtherParts, VerdictsStay}
+use Rattle.plan_terms.specs.Legal.{is_legal}
 use Rattle.goal_terms.specs.declared.heat.Heat.TheVariants as heat
 use Rattle.plan_terms.specs.Resources.{NW_IN}
 
@@ -190,3 +193,22 @@ BrokerRoomsDecide = (hard : Bool) (w : Weights) (b : Bounds) (c : Cluster) (list
 abbrev pub RoomsStay : Type 0
 RoomsStay = (w : Weights) (b : Bounds) (c : Cluster) (lists : Lists) (a : Action) → Belongs c lists → IsTrue (fits lists a)
     → (k : ℕ) → (k ≡ giver lists a → ⊥) → (k ≡ taker a → ⊥) → broker_room w b c (after a lists) k ≡ broker_room w b c lists k
+
+-- whether an action is legal, whether it fits and which broker gives is as it was after an action of other partitions
+pub record LegalActionsStay (c : Cluster) (lists : Lists) (x y : Action) : Type 0 where
+  pub legal : is_legal c (after x lists) y ≡ is_legal c lists y
+  pub fitting : fits (after x lists) y ≡ fits lists y
+  pub from : giver (after x lists) y ≡ giver lists y
+
+abbrev pub LegalityStays : Type 0
+LegalityStays = (c : Cluster) (lists : Lists) (x y : Action) → HaveOtherParts x y → LegalActionsStay c lists x y
+
+-- an action leaves what goals say of every other that shares no broker and no partition with it
+pub record GoalVerdictsStay (c : Cluster) (lists : Lists) : Type 0 where
+  pub brokers : (hard : Bool) (w : Weights) (b : Bounds) → VerdictsStay (per_broker hard w b c) lists
+  pub topics : (hard : Bool) (r : TopicRule) → VerdictsStay (per_topic hard r c) lists
+  pub least : VerdictsStay (least_leaders_goal c) lists
+  pub partitions : (hard : Bool) (f : List ℕ → ℕ) → VerdictsStay (per_partition hard f c) lists
+
+abbrev pub AllVerdictsStay : Type 0
+AllVerdictsStay = (c : Cluster) (lists : Lists) → IsCase c → Belongs c lists → GoalVerdictsStay c lists

@@ -12,3 +12,4 @@ pub mod PerTopic
 pub mod Quantity
 pub mod Rooms
 pub mod Sides
+pub mod Verdicts

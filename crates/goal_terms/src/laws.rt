@@ -13,7 +13,7 @@ ghost use Rattle.plan_terms.specs.declared.actions.Action.{Action};
 ghost use Rattle.goal_terms.specs.PerBroker.{per_broker};
 ghost use Rattle.goal_terms.specs.PerTopic.{per_topic, replica_rule};
 ghost use Rattle.goal_terms.specs.Quantity.{trade, replica_weights, leader_weights, load_weights, potential_out_weights, leader_in_weights};
-ghost use Rattle.goal_terms.specs.Laws.{CasesAreLimited, ActionsTrade, TotalsStay, QuantitiesAreSmall, MeasuresAreSmall, WeightsAreSmall, BoundsAreSmall, PartitionMeasuresAreSmall, TwoBrokersAccept, TwoBrokersLessen, BrokerRoomsDecide, RoomsStay, HeatsTell, ColdBrokersLessenNothing, ColdMembersLessenNothing, StillPartsLessenNothing, IdleTradesLessenNothing, QuantitiesAreSums, TotalsAreSums, ExcessesInNumbers, TopicsComeFirst, TopicsAddUp, TouchedTopicsAccept, ColdTopicsLessenNothing, TopicMeasuresAreSmall, GoalMeasuresAreSmall};
+ghost use Rattle.goal_terms.specs.Laws.{CasesAreLimited, ActionsTrade, TotalsStay, QuantitiesAreSmall, MeasuresAreSmall, WeightsAreSmall, BoundsAreSmall, PartitionMeasuresAreSmall, TwoBrokersAccept, TwoBrokersLessen, BrokerRoomsDecide, RoomsStay, HeatsTell, ColdBrokersLessenNothing, ColdMembersLessenNothing, StillPartsLessenNothing, IdleTradesLessenNothing, QuantitiesAreSums, TotalsAreSums, ExcessesInNumbers, TopicsComeFirst, TopicsAddUp, TouchedTopicsAccept, ColdTopicsLessenNothing, TopicMeasuresAreSmall, GoalMeasuresAreSmall, LegalityStays, AllVerdictsStay};
 ghost use Rattle.plan_terms.specs.Resources.{NW_IN, DISK};
 
 /// Brokers and partitions without a fault are within the limits.
@@ -148,6 +148,17 @@ pub fn topic_measures_are_small()
 /// The measures of all goals over brokers are below 2^120.
 pub fn goal_measures_are_small()
     ensures { GoalMeasuresAreSmall }
+{}
+
+/// An action leaves legal and illegal what it finds so, where the two share no partition.
+pub fn legality_stays()
+    ensures { LegalityStays }
+{}
+
+/// An action leaves what each goal says of every other that shares no broker and no partition with
+/// it.
+pub fn verdicts_stay()
+    ensures { AllVerdictsStay }
 {}
 
 /// What the definitions compute on small clusters.

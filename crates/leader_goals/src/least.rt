@@ -296,6 +296,7 @@ impl Goal for MinTopicLeadersPerBrokerGoal {
     ghost use Rattle.goal_terms.proofs.CaseLemmas.{Limits-case};
     ghost use Rattle.goal_terms.proofs.LeastLemmas.{least-small, least-cold_pairs};
     ghost use Rattle.goal_terms.proofs.PairLemmas.{stirred-still_parts};
+    ghost use Rattle.goal_terms.proofs.VerdictLemmas.{least-verdicts_stay};
 
     ghost meaning = { λ _ c. least_leaders_goal c };
 
@@ -392,4 +393,7 @@ impl Goal for MinTopicLeadersPerBrokerGoal {
     ghost rooms_decide = { λ _ _ _ _ _ _. tt };
 
     ghost rooms_stay = { λ _ _ _ _ _ _ _ _ _ _ _. free };
+
+    ghost verdicts_stay = { λ _ c lists _ is_case fits. least-verdicts_stay c lists
+        (Limits-case c is_case) fits };
 }

@@ -9,6 +9,7 @@ use Rattle.mover_rounds.specs.Made.{Copies, HasRisenBy}
 use Rattle.mover_workers.specs.Callers.{CallerView, HasGrown, IsSince, known_by_caller, known_by_pass}
 use Rattle.net_links.specs.Links.{AcceptedLink, IsFresh, with_link}
 use Rattle.rest_session.specs.Answered.{HasServed}
+use Rattle.rest_session.specs.Heard.{SiteView}
 use Rattle.rest_session.specs.declared.session.LinkEnd.{LinkEnd}
 use Rattle.turn_book.specs.Known.{HasJoined, IsCut, Made}
 use Rattle.turn_book.specs.Rule.{ArePlaced}
@@ -21,7 +22,7 @@ use Rattle.live_service.proofs.Crews.{shares_more, shares_none, shares_of_whole}
 use Rattle.live_service.proofs.Gone.{board_joined, board_same, by_turn, gone_joined, gone_same}
 
 -- one link more, before those that were accepted behind it
-module _ (file : Meaning) (reviews : Bool) (v kept own u back w : Pass) (cut : IsCut v kept own) (joined : HasJoined u back w) (placed : ArePlaced back.seen back.mine) (grown : HasGrown own back)
+module _ (file : Meaning) (site : SiteView) (reviews : Bool) (v kept own u back w : Pass) (cut : IsCut v kept own) (joined : HasJoined u back w) (placed : ArePlaced back.seen back.mine) (grown : HasGrown own back)
     (x x_kept x_own y x_back z : BoardPass) (board_cut : IsCut x x_kept x_own) (board_joined : HasJoined y x_back z) (board_placed : ArePlaced x_back.seen x_back.mine) (board_grown : HasGrown x_own x_back)
     (before after : LinkView) (end : LinkEnd) (k l : Copies) where
   abbrev run : LinkRun
@@ -29,8 +30,8 @@ module _ (file : Meaning) (reviews : Bool) (v kept own u back w : Pass) (cut : I
 
   pub links_more : (told between now : Option (List AcceptedLink)) (old new : List Copies) (links : List ServedView)
       → IsFresh before.written → between ≡ with_link told (accepted_of run)
-      → HasServed false (known_by_pass file own) (known_by_pass file back) (board_seen reviews x_own) (board_seen reviews x_back) k l before.left before.written after.written end → HasLinkCause before after end
-      → HasServedLinks file reviews between now old new links kept u x_kept y → HasServedLinks file reviews told now (k ∷ old) (l ∷ new) (served_in run ∷ links) v w x z
+      → HasServed site (known_by_pass file own) (known_by_pass file back) (board_seen reviews x_own) (board_seen reviews x_back) k l before.left before.written after.written end → HasLinkCause before after end
+      → HasServedLinks file site reviews between now old new links kept u x_kept y → HasServedLinks file site reviews told now (k ∷ old) (l ∷ new) (served_in run ∷ links) v w x z
   links_more told between now old new links unwritten here answered cause h = record {
     runs = run ∷ h.runs;
     others = h.others;
@@ -59,9 +60,9 @@ module _ (file : Meaning) (reviews : Bool) (v kept own u back w : Pass) (cut : I
 -- ---- as the calls tell it
 
 -- no link was accepted
-pub none_accepted : {A : Type 0} (b : CallerView A) (d : BoardCallerView) (s t : ServiceView) (links : ℕ) (r : Result (Unit {0}) Failed) → t.net.accepted ≡ s.net.accepted → t.copiers ≡ s.copiers → t.served ≡ [] → s.room ≤ t.room → s.places ≤ t.places → s.lane_room ≤ t.lane_room → t.lanes ≡ s.lanes
-    → s.net.faults ≤ t.net.faults → OnOk r (0 ≡ links) → HasAccepted b b d d s t links r
-none_accepted b d s t links r told copiers none room places lane_room lanes later whole = record {
+pub none_accepted : {A : Type 0} (site : SiteView) (b : CallerView A) (d : BoardCallerView) (s t : ServiceView) (links : ℕ) (r : Result (Unit {0}) Failed) → t.net.accepted ≡ s.net.accepted → t.copiers ≡ s.copiers → t.served ≡ [] → s.room ≤ t.room → s.places ≤ t.places → s.lane_room ≤ t.lane_room → t.lanes ≡ s.lanes
+    → s.net.faults ≤ t.net.faults → OnOk r (0 ≡ links) → HasAccepted site b b d d s t links r
+none_accepted site b d s t links r told copiers none room places lane_room lanes later whole = record {
   gone = gone_same b;
   board_gone = board_same d;
   served = record { runs = []; others = s.copiers; are = tt; accepted = told; old_are = refl; new_are = copiers; links_are = none; shares = shares_none b.pass; board_shares = shares_none d.pass };
@@ -104,26 +105,26 @@ counted (Ok x) n fewer links e h = ap suc h ∙ sym e
 counted (Err f) n fewer links e h = tt
 
 -- one link more was accepted, and served by one who was split off and joined again
-module _ {A : Type 0} (b kept own u back w : CallerView A) (turn_kept : kept.turn ≡ b.turn) (turn_own : own.turn ≡ b.turn) (cut : IsCut b.pass kept.pass own.pass) (since : IsSince own back) (turn_joined : w.turn ≡ u.turn) (joined : HasJoined u.pass back.pass w.pass) (placed : ArePlaced back.pass.seen back.pass.mine)
+module _ {A : Type 0} (site : SiteView) (b kept own u back w : CallerView A) (turn_kept : kept.turn ≡ b.turn) (turn_own : own.turn ≡ b.turn) (cut : IsCut b.pass kept.pass own.pass) (since : IsSince own back) (turn_joined : w.turn ≡ u.turn) (joined : HasJoined u.pass back.pass w.pass) (placed : ArePlaced back.pass.seen back.pass.mine)
     (d d_kept d_own e d_back f : BoardCallerView) (board_turn : d_kept.turn ≡ d.turn) (board_kept : d_kept.reviews ≡ d.reviews) (board_own : d_own.reviews ≡ d.reviews) (board_cut : IsCut d.pass d_kept.pass d_own.pass) (board_since : IsBoardCallerSince d_own d_back)
     (board_turn_joined : f.turn ≡ e.turn) (board_reviews_joined : f.reviews ≡ e.reviews) (board_joined_is : HasJoined e.pass d_back.pass f.pass) (board_placed : ArePlaced d_back.pass.seen d_back.pass.mine) where
   pub accepted_more : (s s1 t1 t : ServiceView) (before after : LinkView) (end : LinkEnd) (k l : Copies) (links fewer : ℕ) (r : Result (Unit {0}) Failed) → links ≡ suc fewer
       → IsFresh before.written → s1.net.accepted ≡ with_link s.net.accepted (record { source_faults = before.reads; sink_faults = before.writes; left = before.left }) → s.net.faults ≤ s1.net.faults
       → s.copiers ≡ k ∷ s1.copiers → s.room ≤ s1.room → s.places ≤ s1.places → s.lane_room ≤ s1.lane_room → s1.lanes ≡ s.lanes
-      → HasServed false (known_by_caller own) (known_by_caller back) (board_seen d_own.reviews d_own.pass) (board_seen d_back.reviews d_back.pass) k l before.left before.written after.written end → HasLinkCause before after end
-      → HasAccepted kept u d_kept e s1 t1 fewer r
+      → HasServed site (known_by_caller own) (known_by_caller back) (board_seen d_own.reviews d_own.pass) (board_seen d_back.reviews d_back.pass) k l before.left before.written after.written end → HasLinkCause before after end
+      → HasAccepted site kept u d_kept e s1 t1 fewer r
       → t.net ≡ t1.net → t.copiers ≡ l ∷ t1.copiers → t.served ≡ record { link = after; end = end } ∷ t1.served → t1.room ≤ t.room → t1.places ≤ t.places → t1.lane_room ≤ t.lane_room → t.lanes ≡ t1.lanes
-      → HasAccepted b w d f s t links r
+      → HasAccepted site b w d f s t links r
   accepted_more s s1 t1 t before after end k l links fewer r one fresh here faults taken room places lane_room lanes answered cause h net given noted more_room more_places more_lanes lanes_back =
       let file : Meaning = b.turn.start.file in
-      let links_of : Meaning → Bool → Type 0 = λ m reviews. HasServedLinks m reviews s1.net.accepted t1.net.accepted s1.copiers t1.copiers t1.served kept.pass u.pass d_kept.pass e.pass in
+      let links_of : Meaning → Bool → Type 0 = λ m reviews. HasServedLinks m site reviews s1.net.accepted t1.net.accepted s1.copiers t1.copiers t1.served kept.pass u.pass d_kept.pass e.pass in
       let of_turn : links_of file d_kept.reviews = subst (λ (m : Made (BookView A)). links_of m.start.file d_kept.reviews) turn_kept h.served in
       let served : links_of file d.reviews = subst (λ (reviews : Bool). links_of file reviews) board_kept of_turn in
-      let reply_of : Bool → Bool → Type 0 = λ x y. HasServed false (known_by_pass file own.pass) (known_by_pass file back.pass) (board_seen x d_own.pass) (board_seen y d_back.pass) k l before.left before.written after.written end in
-      let by_pass_of : reply_of d_own.reviews d_back.reviews = by_turn (λ v x. HasServed false v x (board_seen d_own.reviews d_own.pass) (board_seen d_back.reviews d_back.pass) k l before.left before.written after.written end) b.turn own back turn_own since answered in
+      let reply_of : Bool → Bool → Type 0 = λ x y. HasServed site (known_by_pass file own.pass) (known_by_pass file back.pass) (board_seen x d_own.pass) (board_seen y d_back.pass) k l before.left before.written after.written end in
+      let by_pass_of : reply_of d_own.reviews d_back.reviews = by_turn (λ v x. HasServed site v x (board_seen d_own.reviews d_own.pass) (board_seen d_back.reviews d_back.pass) k l before.left before.written after.written end) b.turn own back turn_own since answered in
       let of_back : reply_of d_own.reviews d.reviews = subst (λ (reviews : Bool). reply_of d_own.reviews reviews) (board_since.reviews ∙ board_own) by_pass_of in
       let replied : reply_of d.reviews d.reviews = subst (λ (reviews : Bool). reply_of reviews d.reviews) board_own of_back in
-      let more = links_more file d.reviews b.pass kept.pass own.pass u.pass back.pass w.pass cut joined placed since.grown
+      let more = links_more file site d.reviews b.pass kept.pass own.pass u.pass back.pass w.pass cut joined placed since.grown
       d.pass d_kept.pass d_own.pass e.pass d_back.pass f.pass board_cut board_joined_is board_placed board_since.grown
       before after end k l s.net.accepted s1.net.accepted t1.net.accepted s1.copiers t1.copiers t1.served
       fresh here replied cause served in

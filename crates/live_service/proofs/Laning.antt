@@ -9,10 +9,11 @@ use Rattle.mover_rounds.specs.Made.{Copies, HasRisenBy}
 use Rattle.mover_workers.specs.Callers.{CallerView, HasGrown, IsSince, known_by_caller, known_by_pass}
 use Rattle.net_links.specs.Links.{AcceptedLink, IsFresh, IsUnused, with_link}
 use Rattle.rest_session.specs.Answered.{HasServed}
+use Rattle.rest_session.specs.Heard.{SiteView}
 use Rattle.rest_session.specs.declared.session.LinkEnd.{LinkEnd}
 use Rattle.turn_book.specs.Known.{HasJoined, IsCut, Made}
 use Rattle.turn_book.specs.Rule.{ArePlaced}
-use Rattle.live_service.specs.Asked.{HasSpace, ServingAsked}
+use Rattle.live_service.specs.Asked.{HasSpace, ServingAsked, offering}
 use Rattle.live_service.specs.Boards.{BoardCallerView, BoardPass, IsBoardCallerSince, board_seen}
 use Rattle.live_service.specs.Lanes.{HasRunLanes, HasServedAt, HasServedLane, HasServedLanes, IsNetEnd, LaneRun, any_failed, lane_state}
 use Rattle.live_service.specs.Links.{HasLinkCause, LinkRun, out_of_memory, tries}
@@ -27,21 +28,21 @@ use Rattle.live_service.proofs.Gone.{board_joined, board_same, by_turn, gone_joi
 -- ---- one thread
 
 -- it served no link yet
-pub lane_none : {A : Type 0} (b : CallerView A) (d : BoardCallerView) (k : Copies) (net : NetView) → HasServedLane b.turn.start.file d.reviews (lane_state b.pass d.pass k) (lane_state b.pass d.pass k) net (record { net = net; failed = false; wants = false })
-lane_none b d k net = record { links = []; runs = refl; accepted = refl; failed = λ q. absurd cc; later = omega arith; wants = refl }
+pub lane_none : {A : Type 0} (site : SiteView) (b : CallerView A) (d : BoardCallerView) (k : Copies) (net : NetView) → HasServedLane b.turn.start.file site d.reviews (lane_state b.pass d.pass k) (lane_state b.pass d.pass k) net (record { net = net; failed = false; wants = false })
+lane_none site b d k net = record { links = []; runs = refl; accepted = refl; failed = λ q. absurd cc; later = omega arith; wants = refl }
 
-module _ {A : Type 0} (b u : CallerView A) (d e : BoardCallerView) (since : IsSince b u) (board_since : IsBoardCallerSince d e) (k j : Copies) (before net : NetView) (wants : Bool)
-    (h : HasServedLane b.turn.start.file d.reviews (lane_state b.pass d.pass k) (lane_state u.pass e.pass j) before (record { net = net; failed = false; wants = wants })) where
+module _ {A : Type 0} (site : SiteView) (b u : CallerView A) (d e : BoardCallerView) (since : IsSince b u) (board_since : IsBoardCallerSince d e) (k j : Copies) (before net : NetView) (wants : Bool)
+    (h : HasServedLane b.turn.start.file site d.reviews (lane_state b.pass d.pass k) (lane_state u.pass e.pass j) before (record { net = net; failed = false; wants = wants })) where
   -- one link more
   pub lane_more : (c : CallerView A) (f : BoardCallerView) → IsSince u c → IsBoardCallerSince e f → (l : Copies) (now : NetView) (first last : LinkView) (end : LinkEnd)
       → now.accepted ≡ with_link net.accepted (record { source_faults = first.reads; sink_faults = first.writes; left = first.left }) → net.faults ≤ now.faults → IsFresh first.written
-      → HasServed true (known_by_caller u) (known_by_caller c) (board_seen e.reviews e.pass) (board_seen f.reviews f.pass) j l first.left first.written last.written end → HasLinkCause first last end
-      → HasServedLane b.turn.start.file d.reviews (lane_state b.pass d.pass k) (lane_state c.pass f.pass l) before (record { net = now; failed = false; wants = out_of_memory end || wants })
+      → HasServed site (known_by_caller u) (known_by_caller c) (board_seen e.reviews e.pass) (board_seen f.reviews f.pass) j l first.left first.written last.written end → HasLinkCause first last end
+      → HasServedLane b.turn.start.file site d.reviews (lane_state b.pass d.pass k) (lane_state c.pass f.pass l) before (record { net = now; failed = false; wants = out_of_memory end || wants })
   lane_more c f next board_next l now first last end here faults fresh answered cause =
       let file : Meaning = b.turn.start.file in
       let run : LinkRun = record { given = u.pass; back = c.pass; board_given = e.pass; board_back = f.pass; old = j; new = l; before = first; after = last; end = end } in
-      let reply_of : Bool → Bool → Type 0 = λ x y. HasServed true (known_by_pass file u.pass) (known_by_pass file c.pass) (board_seen x e.pass) (board_seen y f.pass) j l first.left first.written last.written end in
-      let by_pass_of : reply_of e.reviews f.reviews = by_turn (λ v x. HasServed true v x (board_seen e.reviews e.pass) (board_seen f.reviews f.pass) j l first.left first.written last.written end) b.turn u c since.turn next answered in
+      let reply_of : Bool → Bool → Type 0 = λ x y. HasServed site (known_by_pass file u.pass) (known_by_pass file c.pass) (board_seen x e.pass) (board_seen y f.pass) j l first.left first.written last.written end in
+      let by_pass_of : reply_of e.reviews f.reviews = by_turn (λ v x. HasServed site v x (board_seen e.reviews e.pass) (board_seen f.reviews f.pass) j l first.left first.written last.written end) b.turn u c since.turn next answered in
       let of_last : reply_of e.reviews d.reviews = subst (λ (reviews : Bool). reply_of e.reviews reviews) (board_next.reviews ∙ board_since.reviews) by_pass_of in
       let replied : reply_of d.reviews d.reviews = subst (λ (reviews : Bool). reply_of reviews d.reviews) board_since.reviews of_last in
       record {
@@ -55,7 +56,7 @@ module _ {A : Type 0} (b u : CallerView A) (d e : BoardCallerView) (since : IsSi
 
   -- no further link came
   pub lane_failed : (now : NetView) → now.accepted ≡ net.accepted → HasRisenBy tries net.faults now.faults → net.faults ≤ now.faults
-      → HasServedLane b.turn.start.file d.reviews (lane_state b.pass d.pass k) (lane_state u.pass e.pass j) before (record { net = now; failed = true; wants = wants })
+      → HasServedLane b.turn.start.file site d.reviews (lane_state b.pass d.pass k) (lane_state u.pass e.pass j) before (record { net = now; failed = true; wants = wants })
   lane_failed now same risen faults = record {
     links = h.links;
     runs = h.runs;
@@ -76,9 +77,9 @@ risen_none (Ok done) before now Other h = tt
 risen_none (Err f) before now Other h = inl h
 
 -- there is no thread
-pub none_ran : {A : Type 0} (b : CallerView A) (d : BoardCallerView) (s t : ServiceView) (lanes : ℕ) (r : Result (Unit {0}) Failed) → t.net.accepted ≡ s.net.accepted → t.net.heard ≡ s.net.heard → s.net.faults ≤ t.net.faults → t.copiers ≡ s.copiers → t.served ≡ s.served → t.lanes ≡ []
-    → s.room ≤ t.room → s.places ≤ t.places → s.lane_room ≤ t.lane_room → OnOk r (0 ≡ lanes) → OnErr r (HasRisen s.net.faults t.net.faults) → HasRunLanes b b d d s t lanes r
-none_ran b d s t lanes r told heard later copiers served none room places lane_room whole risen = record {
+pub none_ran : {A : Type 0} (site : SiteView) (b : CallerView A) (d : BoardCallerView) (s t : ServiceView) (lanes : ℕ) (r : Result (Unit {0}) Failed) → t.net.accepted ≡ s.net.accepted → t.net.heard ≡ s.net.heard → s.net.faults ≤ t.net.faults → t.copiers ≡ s.copiers → t.served ≡ s.served → t.lanes ≡ []
+    → s.room ≤ t.room → s.places ≤ t.places → s.lane_room ≤ t.lane_room → OnOk r (0 ≡ lanes) → OnErr r (HasRisen s.net.faults t.net.faults) → HasRunLanes site b b d d s t lanes r
+none_ran site b d s t lanes r told heard later copiers served none room places lane_room whole risen = record {
   gone = gone_same b;
   board_gone = board_same d;
   served = record { runs = []; others = s.copiers; are = tt; old_are = refl; new_are = copiers; lanes_are = none; shares = shares_none b.pass; board_shares = shares_none d.pass };
@@ -129,26 +130,26 @@ fewer_space s u s1 k v w own x y board_own lanes had rest taken took cut board_c
     }
 
 -- one thread more, whose callers were split off and joined again
-module _ {A : Type 0} (b kept own u back w : CallerView A) (turn_kept : kept.turn ≡ b.turn) (turn_own : own.turn ≡ b.turn) (cut : IsCut b.pass kept.pass own.pass) (since : IsSince own back) (turn_joined : w.turn ≡ u.turn) (joined : HasJoined u.pass back.pass w.pass) (placed : ArePlaced back.pass.seen back.pass.mine)
+module _ {A : Type 0} (site : SiteView) (b kept own u back w : CallerView A) (turn_kept : kept.turn ≡ b.turn) (turn_own : own.turn ≡ b.turn) (cut : IsCut b.pass kept.pass own.pass) (since : IsSince own back) (turn_joined : w.turn ≡ u.turn) (joined : HasJoined u.pass back.pass w.pass) (placed : ArePlaced back.pass.seen back.pass.mine)
     (d d_kept d_own e d_back f : BoardCallerView) (board_turn : d_kept.turn ≡ d.turn) (board_kept : d_kept.reviews ≡ d.reviews) (board_own : d_own.reviews ≡ d.reviews) (board_cut : IsCut d.pass d_kept.pass d_own.pass) (board_since : IsBoardCallerSince d_own d_back)
     (board_turn_joined : f.turn ≡ e.turn) (board_reviews_joined : f.reviews ≡ e.reviews) (board_joined_is : HasJoined e.pass d_back.pass f.pass) (board_placed : ArePlaced d_back.pass.seen d_back.pass.mine) where
   pub lanes_more : (s s1 t1 t : ServiceView) (before : NetView) (lane : LaneView) (k l : Copies) (lanes fewer : ℕ) (r end : Result (Unit {0}) Failed) → is_err end ≡ (lane.failed || is_err r) → lanes ≡ suc fewer → IsUnused before.faults before.accepted
       → s1.net.accepted ≡ s.net.accepted → s1.net.heard ≡ s.net.heard → s.net.faults ≤ s1.net.faults → s1.served ≡ s.served
       → s.copiers ≡ k ∷ s1.copiers → s.room ≤ s1.room → s.places ≤ s1.places → s.lane_room ≤ s1.lane_room
-      → HasServedLane own.turn.start.file d_own.reviews (lane_state own.pass d_own.pass k) (lane_state back.pass d_back.pass l) before lane
-      → HasRunLanes kept u d_kept e s1 t1 fewer r
+      → HasServedLane own.turn.start.file site d_own.reviews (lane_state own.pass d_own.pass k) (lane_state back.pass d_back.pass l) before lane
+      → HasRunLanes site kept u d_kept e s1 t1 fewer r
       → t.net ≡ t1.net → t.copiers ≡ l ∷ t1.copiers → t.served ≡ t1.served → t.lanes ≡ lane ∷ t1.lanes → t1.room ≤ t.room → t1.places ≤ t.places → t1.lane_room ≤ t.lane_room
-      → HasRunLanes b w d f s t lanes end
+      → HasRunLanes site b w d f s t lanes end
   lanes_more s s1 t1 t before lane k l lanes fewer r end is one unused told heard faults served taken room places lane_room ran h net given served_back noted more_room more_places more_lanes =
       let file : Meaning = b.turn.start.file in
-      let lanes_of : Meaning → Bool → Type 0 = λ m reviews. HasServedLanes m reviews s1.copiers t1.copiers t1.lanes kept.pass u.pass d_kept.pass e.pass in
+      let lanes_of : Meaning → Bool → Type 0 = λ m reviews. HasServedLanes m site reviews s1.copiers t1.copiers t1.lanes kept.pass u.pass d_kept.pass e.pass in
       let of_turn : lanes_of file d_kept.reviews = subst (λ (m : Made (BookView A)). lanes_of m.start.file d_kept.reviews) turn_kept h.served in
       let others : lanes_of file d.reviews = subst (λ (reviews : Bool). lanes_of file reviews) board_kept of_turn in
-      let lane_of : Meaning → Bool → Type 0 = λ m reviews. HasServedLane m reviews (lane_state own.pass d_own.pass k) (lane_state back.pass d_back.pass l) before lane in
+      let lane_of : Meaning → Bool → Type 0 = λ m reviews. HasServedLane m site reviews (lane_state own.pass d_own.pass k) (lane_state back.pass d_back.pass l) before lane in
       let of_own : lane_of file d_own.reviews = subst (λ (m : Made (BookView A)). lane_of m.start.file d_own.reviews) turn_own ran in
       let ran_so : lane_of file d.reviews = subst (λ (reviews : Bool). lane_of file reviews) board_own of_own in
       let run : LaneRun = record { given = lane_state own.pass d_own.pass k; back = lane_state back.pass d_back.pass l; before = before; lane = lane } in
-      let more : HasServedLanes file d.reviews (k ∷ s1.copiers) (l ∷ t1.copiers) (lane ∷ t1.lanes) b.pass w.pass d.pass f.pass = record {
+      let more : HasServedLanes file site d.reviews (k ∷ s1.copiers) (l ∷ t1.copiers) (lane ∷ t1.lanes) b.pass w.pass d.pass f.pass = record {
         runs = run ∷ others.runs;
         others = others.others;
         are = (
@@ -209,11 +210,11 @@ not_opened b d s t asked told heard risen later copiers served none room places 
 
 module _ {A : Type 0} (b c : CallerView A) (d e : BoardCallerView) (s u t : ServiceView) (asked : ServingAsked) (told : u.net.accepted ≡ s.net.accepted) (heard : u.net.heard ≡ with_name s.net.heard asked.address) (same : u.net.faults ≡ s.net.faults) (copiers : u.copiers ≡ s.copiers) (served : u.served ≡ s.served)
     (room : u.room ≡ s.room) (places : u.places ≡ s.places) (lane_room : u.lane_room ≡ s.lane_room) where
-  served_at : (r : Result (Unit {0}) Failed) (end : FrontEnd) → HasRunLanes b c d e u t asked.links r → IsNetEnd asked s.net t.net t.lanes end → HasServedAt b c d e s t asked end
+  served_at : (r : Result (Unit {0}) Failed) (end : FrontEnd) → HasRunLanes (offering asked.page) b c d e u t asked.links r → IsNetEnd asked s.net t.net t.lanes end → HasServedAt b c d e s t asked end
   served_at r end h ended = record {
     gone = h.gone;
     board_gone = h.board_gone;
-    served = subst (λ (xs : List Copies). HasServedLanes b.turn.start.file d.reviews xs t.copiers t.lanes b.pass c.pass d.pass e.pass) copiers h.served;
+    served = subst (λ (xs : List Copies). HasServedLanes b.turn.start.file (offering asked.page) d.reviews xs t.copiers t.lanes b.pass c.pass d.pass e.pass) copiers h.served;
     accepted = h.accepted ∙ told;
     faults = (let x = h.faults in omega (arith, same, x));
     none = h.none ∙ served;
@@ -227,7 +228,7 @@ module _ {A : Type 0} (b c : CallerView A) (d e : BoardCallerView) (s u t : Serv
   }
 
   -- all threads went on until a client asked the end
-  pub shut_down_at : (done : Unit {0}) → HasRunLanes b c d e u t asked.links (Ok done) → HasServedAt b c d e s t asked front.ShutDown
+  pub shut_down_at : (done : Unit {0}) → HasRunLanes (offering asked.page) b c d e u t asked.links (Ok done) → HasServedAt b c d e s t asked front.ShutDown
   shut_down_at done h = served_at (Ok done) front.ShutDown h (record { count = h.whole.0; heard = h.heard ∙ heard; well = h.whole.1 })
 
   since_opened : HasRisen u.net.faults t.net.faults ⊎ (any_failed t.lanes ≡ true) → HasRisen s.net.faults t.net.faults ⊎ (any_failed t.lanes ≡ true)
@@ -235,5 +236,5 @@ module _ {A : Type 0} (b c : CallerView A) (d e : BoardCallerView) (s u t : Serv
   since_opened (inr h) = inr h
 
   -- a call for a further handle failed, or a thread gave up
-  pub given_up_at : (f : Failed) → HasRunLanes b c d e u t asked.links (Err f) → HasServedAt b c d e s t asked front.ListenerFault
+  pub given_up_at : (f : Failed) → HasRunLanes (offering asked.page) b c d e u t asked.links (Err f) → HasServedAt b c d e s t asked front.ListenerFault
   given_up_at f h = served_at (Err f) front.ListenerFault h (record { most = h.most; why = inr (h.heard ∙ heard, since_opened h.given_up) })

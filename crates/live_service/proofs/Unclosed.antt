@@ -34,11 +34,11 @@ use Rattle.mover_workers.specs.declared.steps.Step.TheVariants.{Closed, Done, Id
 use Rattle.rest_session.proofs.Spared.{AreFree, IsSpared, both_free, close_spared, drained_free, heal_spared, none_has, pieces_open, plan_free, reviewed_no_fix, work_free}
 use Rattle.rest_session.specs.Answered.{HasServed}
 use Rattle.rest_session.specs.Heals.{is_heal}
-use Rattle.rest_session.specs.Heard.{Offers}
+use Rattle.rest_session.specs.Heard.{Offers, SiteView, paged}
 use Rattle.rest_session.specs.Pieces.{IsPiece, Piece, in_order}
 use Rattle.rest_session.specs.declared.session.LinkEnd.{LinkEnd}
 use Rattle.turn_book.specs.Rule.{once_below, times}
-use Rattle.live_service.specs.Asked.{ServingAsked}
+use Rattle.live_service.specs.Asked.{ServingAsked, offering}
 use Rattle.live_service.specs.Closing.{HasFronted}
 use Rattle.mover_workers.specs.Close.{HasClosed, IsClosed}
 use Rattle.live_service.specs.Boards.{BoardCallerView, BoardPass, board_seen}
@@ -164,11 +164,11 @@ seen_some true p = refl
 seen_some false p = refl
 
 -- what a link offers that reviews or doesn't
-abbrev offered : Bool → Bool → Offers
-offered o reviews = record { reviews = reviews; shutdown = o }
+abbrev offered : SiteView → Bool → Offers
+offered o reviews = record { reviews = reviews; site = o }
 
-module _ (file : Meaning) (bad : Event → Bool) (spared : IsSpared bad) (reviews : Bool) (pieces_free : (o : Bool) (r : Rules) (s : List Event) (ps : List Piece) → AllByRecursion (IsPiece (offered o reviews) r s) ps → AreFree bad (in_order (λ p. p.made) ps)) where
-  served_free : (o : Bool) (v w : Pass) (x y : BoardPass) (k l : Copies) (left old new : Option (List ℕ)) (end : LinkEnd) → AreFreeAt bad v.mine → HasServed o (known_by_pass file v) (known_by_pass file w) (board_seen reviews x) (board_seen reviews y) k l left old new end → AreFreeAt bad w.mine
+module _ (file : Meaning) (bad : Event → Bool) (spared : IsSpared bad) (reviews : Bool) (pieces_free : (o : SiteView) (r : Rules) (s : List Event) (ps : List Piece) → AllByRecursion (IsPiece (offered o reviews) r s) ps → AreFree bad (in_order (λ p. p.made) ps)) where
+  served_free : (o : SiteView) (v w : Pass) (x y : BoardPass) (k l : Copies) (left old new : Option (List ℕ)) (end : LinkEnd) → AreFreeAt bad v.mine → HasServed o (known_by_pass file v) (known_by_pass file w) (board_seen reviews x) (board_seen reviews y) k l left old new end → AreFreeAt bad w.mine
   served_free o v w x y k l left old new end before h =
       let r = turn_rules file in
       let are : AllByRecursion (IsPiece (offered o reviews) r w.seen) h.made.is.pieces = subst (λ (b : Bool). AllByRecursion (IsPiece (offered o b) r w.seen) h.made.is.pieces) (seen_some reviews x) h.made.is.are.are in
@@ -182,39 +182,39 @@ module _ (file : Meaning) (bad : Event → Bool) (spared : IsSpared bad) (review
   planners_free [] h = tt
   planners_free (p ∷ ps) h = both_at bad (shares_of (map (λ x. x.back) ps)) p.back.mine (planners_free ps h.1) (planner_free bad spared file p h.0)
 
-  links_free : (rs : List LinkRun) → AllByRecursion (IsLinkRun file reviews) rs → AreFreeAt bad (shares_of (map (λ r. r.back) rs))
-  links_free [] h = tt
-  links_free (r ∷ rs) h = both_at bad (shares_of (map (λ x. x.back) rs)) r.back.mine (links_free rs h.1) (served_free false r.given r.back r.board_given r.board_back r.old r.new r.before.left r.before.written r.after.written r.end (none_free bad r.given h.0.fresh) h.0.run.answered)
+  links_free : (site : SiteView) (rs : List LinkRun) → AllByRecursion (IsLinkRun file site reviews) rs → AreFreeAt bad (shares_of (map (λ r. r.back) rs))
+  links_free site [] h = tt
+  links_free site (r ∷ rs) h = both_at bad (shares_of (map (λ x. x.back) rs)) r.back.mine (links_free site rs h.1) (served_free site r.given r.back r.board_given r.board_back r.old r.new r.before.left r.before.written r.after.written r.end (none_free bad r.given h.0.fresh) h.0.run.answered)
 
-  links_of_free : (told now : Option (List AcceptedLink)) (old new : List Copies) (links : List ServedView) (v w : Pass) (x y : BoardPass) → v.mine ≡ [] → HasServedLinks file reviews told now old new links v w x y → AreFreeAt bad w.mine
-  links_of_free told now old new links v w x y fresh h = subst (AreFreeAt bad) (sym (h.shares.mine ∙ ap (λ (m : List (ℕ × Event)). m ++ shares_of (map (λ (r : LinkRun). r.back) h.runs)) fresh)) (links_free h.runs h.are)
+  links_of_free : (site : SiteView) (told now : Option (List AcceptedLink)) (old new : List Copies) (links : List ServedView) (v w : Pass) (x y : BoardPass) → v.mine ≡ [] → HasServedLinks file site reviews told now old new links v w x y → AreFreeAt bad w.mine
+  links_of_free site told now old new links v w x y fresh h = subst (AreFreeAt bad) (sym (h.shares.mine ∙ ap (λ (m : List (ℕ × Event)). m ++ shares_of (map (λ (r : LinkRun). r.back) h.runs)) fresh)) (links_free site h.runs h.are)
 
   -- the links of a thread
-  runs_free : (a : LaneState) (rs : List LinkRun) (b : LaneState) → AreFreeAt bad a.pass.mine → AreRuns file reviews a rs b → AreFreeAt bad b.pass.mine
-  runs_free a [] b before h = subst (λ (x : LaneState). AreFreeAt bad x.pass.mine) (sym h) before
-  runs_free a (r ∷ rs) b before h =
-      let earlier = runs_free a rs (record { pass = r.given; board = r.board_given; copies = r.old }) before h.2 in
-      let now = served_free true r.given r.back r.board_given r.board_back r.old r.new r.before.left r.before.written r.after.written r.end earlier h.0.answered in
+  runs_free : (site : SiteView) (a : LaneState) (rs : List LinkRun) (b : LaneState) → AreFreeAt bad a.pass.mine → AreRuns file site reviews a rs b → AreFreeAt bad b.pass.mine
+  runs_free site a [] b before h = subst (λ (x : LaneState). AreFreeAt bad x.pass.mine) (sym h) before
+  runs_free site a (r ∷ rs) b before h =
+      let earlier = runs_free site a rs (record { pass = r.given; board = r.board_given; copies = r.old }) before h.2 in
+      let now = served_free site r.given r.back r.board_given r.board_back r.old r.new r.before.left r.before.written r.after.written r.end earlier h.0.answered in
       subst (λ (x : LaneState). AreFreeAt bad x.pass.mine) (sym h.1) now
 
-  lanes_free : (rs : List LaneRun) → AllByRecursion (IsLaneRun file reviews) rs → AreFreeAt bad (shares_of (map (λ r. r.back.pass) rs))
-  lanes_free [] h = tt
-  lanes_free (r ∷ rs) h = both_at bad (shares_of (map (λ x. x.back.pass) rs)) r.back.pass.mine (lanes_free rs h.1) (runs_free r.given h.0.served.links r.back (none_free bad r.given.pass h.0.fresh) h.0.served.runs)
+  lanes_free : (site : SiteView) (rs : List LaneRun) → AllByRecursion (IsLaneRun file site reviews) rs → AreFreeAt bad (shares_of (map (λ r. r.back.pass) rs))
+  lanes_free site [] h = tt
+  lanes_free site (r ∷ rs) h = both_at bad (shares_of (map (λ x. x.back.pass) rs)) r.back.pass.mine (lanes_free site rs h.1) (runs_free site r.given h.0.served.links r.back (none_free bad r.given.pass h.0.fresh) h.0.served.runs)
 
-  lanes_of_free : (old new : List Copies) (lanes : List LaneView) (v w : Pass) (x y : BoardPass) → v.mine ≡ [] → HasServedLanes file reviews old new lanes v w x y → AreFreeAt bad w.mine
-  lanes_of_free old new lanes v w x y fresh h = subst (AreFreeAt bad) (sym (h.shares.mine ∙ ap (λ (m : List (ℕ × Event)). m ++ shares_of (map (λ (r : LaneRun). r.back.pass) h.runs)) fresh)) (lanes_free h.runs h.are)
+  lanes_of_free : (site : SiteView) (old new : List Copies) (lanes : List LaneView) (v w : Pass) (x y : BoardPass) → v.mine ≡ [] → HasServedLanes file site reviews old new lanes v w x y → AreFreeAt bad w.mine
+  lanes_of_free site old new lanes v w x y fresh h = subst (AreFreeAt bad) (sym (h.shares.mine ∙ ap (λ (m : List (ℕ × Event)). m ++ shares_of (map (λ (r : LaneRun). r.back.pass) h.runs)) fresh)) (lanes_free site h.runs h.are)
 
   net_free : (forever : Bool) (asked : ServingAsked) (d e : BoardCallerView) (f g : FrontTold) (end : FrontEnd) (old new : List Copies) (v w : Pass) → d.reviews ≡ reviews → v.mine ≡ [] → HasAnsweredNet forever file asked d e f g end old new v w → AreFreeAt bad w.mine
-  net_free false asked d e f g front.Accepted old new v w same fresh h = links_of_free f.net.accepted g.net.accepted old new g.served v w d.pass e.pass fresh (subst (λ (b : Bool). HasServedLinks file b f.net.accepted g.net.accepted old new g.served v w d.pass e.pass) same h.0.served)
-  net_free false asked d e f g front.ListenerFault old new v w same fresh h = links_of_free f.net.accepted g.net.accepted old new g.served v w d.pass e.pass fresh (subst (λ (b : Bool). HasServedLinks file b f.net.accepted g.net.accepted old new g.served v w d.pass e.pass) same h.0.served)
+  net_free false asked d e f g front.Accepted old new v w same fresh h = links_of_free (paged asked.page) f.net.accepted g.net.accepted old new g.served v w d.pass e.pass fresh (subst (λ (b : Bool). HasServedLinks file (paged asked.page) b f.net.accepted g.net.accepted old new g.served v w d.pass e.pass) same h.0.served)
+  net_free false asked d e f g front.ListenerFault old new v w same fresh h = links_of_free (paged asked.page) f.net.accepted g.net.accepted old new g.served v w d.pass e.pass fresh (subst (λ (b : Bool). HasServedLinks file (paged asked.page) b f.net.accepted g.net.accepted old new g.served v w d.pass e.pass) same h.0.served)
   net_free false asked d e f g front.ShutDown old new v w same fresh h = absurd h
   net_free false asked d e f g (front.Console end) old new v w same fresh h = absurd h
-  net_free true asked d e f g end old new v w same fresh h = lanes_of_free old new g.lanes v w d.pass e.pass fresh (subst (λ (b : Bool). HasServedLanes file b old new g.lanes v w d.pass e.pass) same h.0.served)
+  net_free true asked d e f g end old new v w same fresh h = lanes_of_free (offering asked.page) old new g.lanes v w d.pass e.pass fresh (subst (λ (b : Bool). HasServedLanes file (offering asked.page) b old new g.lanes v w d.pass e.pass) same h.0.served)
 
   pub answered_free : (asked : Option ServingAsked) (d e : BoardCallerView) (f g : FrontTold) (end : FrontEnd) (old new : List Copies) (v w : Pass) → d.reviews ≡ reviews → v.mine ≡ [] → HasAnswered file asked d e f g end old new v w → AreFreeAt bad w.mine
   answered_free None d e f g (front.Console end) old new v w same fresh h =
-      served_free false v w d.pass e.pass f.copier g.copier f.console.left f.console.written g.console.written end (none_free bad v fresh)
-      (subst (λ (b : Bool). HasServed false (known_by_pass file v) (known_by_pass file w) (board_seen b d.pass) (board_seen b e.pass) f.copier g.copier f.console.left f.console.written g.console.written end) same h.0.answered)
+      served_free (paged false) v w d.pass e.pass f.copier g.copier f.console.left f.console.written g.console.written end (none_free bad v fresh)
+      (subst (λ (b : Bool). HasServed (paged false) (known_by_pass file v) (known_by_pass file w) (board_seen b d.pass) (board_seen b e.pass) f.copier g.copier f.console.left f.console.written g.console.written end) same h.0.answered)
   answered_free None d e f g front.Accepted old new v w same fresh h = absurd h
   answered_free None d e f g front.ShutDown old new v w same fresh h = absurd h
   answered_free None d e f g front.ListenerFault old new v w same fresh h = absurd h
@@ -272,7 +272,7 @@ drained_none bad spared b c k l end none h =
 -- so a front whose Close wasn't taken is none: it asked the only one
 module _ {A : Type 0} (faults : A → ℕ) (asked : Option ServingAsked) (d e : BoardCallerView) (f g : FrontTold) (end : FrontEnd) (b c : BookView A) (s t : TeamView) (movers planners : ℕ) (h : IsShared faults (λ xs ys. HasFronted (HasAnswered b.file asked d e f g end xs ys)) b c s t movers planners) where
   -- no entry is of a kind that neither the requests nor the workers ask, nor the front itself
-  none_shared : (bad : Event → Bool) (spared : IsSpared bad) (pieces_free : (o : Bool) (r : Rules) (k : List Event) (ps : List Piece) → AllByRecursion (IsPiece (offered o d.reviews) r k) ps → AreFree bad (in_order (λ p. p.made) ps))
+  none_shared : (bad : Event → Bool) (spared : IsSpared bad) (pieces_free : (o : SiteView) (r : Rules) (k : List Event) (ps : List Piece) → AllByRecursion (IsPiece (offered o d.reviews) r k) ps → AreFree bad (in_order (λ p. p.made) ps))
       → (AreFreeAt bad h.run.run.did.served.mine → AreFreeAt bad h.run.run.over.mine) → list_any bad c.journal ≡ false
   none_shared bad spared pieces_free close =
       let r = h.run.run in

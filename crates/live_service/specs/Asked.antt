@@ -1,17 +1,24 @@
 -- How many links are asked for, and what they, the movers and the planners need.
-use Rattle.std.specs.Prelude.{◌≡◌, ◌≤◌, ◌<◌, ◌+◌, ℕ, Bool, List, [], length, Option, Some, None, option_map, string_bytes}
+use Rattle.std.specs.Prelude.{◌≡◌, ◌≤◌, ◌<◌, ◌+◌, ℕ, Bool, true, List, [], length, Option, Some, None, option_map, string_bytes}
+use Rattle.rest_session.specs.Heard.{SiteView}
 use Rattle.live_service.specs.Views.{ServiceView, TeamView}
 use Rattle.live_service.specs.declared.links.Serving.{Serving}
 use Rattle.live_service.specs.declared.live.Crew.{Crew}
 
--- links that are asked for, accepted at this address: so many; or any number, so many at once, until a client asks the service to shut down
+-- links that are asked for, accepted at this address: so many; or any number, so many at once, until a client asks the service to shut down.
+-- There is a page, or not
 pub record ServingAsked : Type 0 where
   pub address : List ℕ
   pub links : ℕ
   pub forever : Bool
+  pub page : Bool
 
 abbrev pub asked_of : Serving → ServingAsked
-asked_of s = record { address = string_bytes s.address; links = s.links; forever = s.forever }
+asked_of s = record { address = string_bytes s.address; links = s.links; forever = s.forever; page = s.page }
+
+-- a client may ask the service to shut down, and its page, or not
+abbrev pub offering : Bool → SiteView
+offering page = record { page = page; shutdown = true }
 
 -- or none, for the console
 abbrev pub serving_view : Option Serving → Option ServingAsked

@@ -9,22 +9,23 @@ use Rattle.mover_workers.specs.Close.{HasClosed}
 use Rattle.mover_workers.specs.Callers.{CallerView, HasGrown, known_by_pass}
 use Rattle.net_links.specs.Links.{AcceptedLink}
 use Rattle.rest_session.specs.Answered.{HasServed}
+use Rattle.rest_session.specs.Heard.{SiteView, paged}
 use Rattle.rest_session.specs.declared.session.LinkEnd.{LinkEnd}
 use Rattle.turn_book.specs.Rule.{ArePlaced}
 use Rattle.live_service.specs.Links.{HasLinkCause, IsLinkRun, LinkRun, accepted_of, served_in, tries, with_links}
 use Rattle.live_service.specs.Boards.{BoardPass, BoardCallerView, HasBoardGoneOn, board_seen}
 use Rattle.live_service.specs.Views.{FrontTold, NetView, ServedView, ServiceView}
-use Rattle.live_service.specs.Asked.{IsWhole, ServingAsked}
+use Rattle.live_service.specs.Asked.{IsWhole, ServingAsked, offering}
 use Rattle.live_service.specs.Lanes.{HasServedOn, IsNetEnd}
 use Rattle.live_service.specs.Workers.{HasGoneOn, HasShares, Pass}
 use Rattle.live_service.specs.declared.front.FrontEnd.{FrontEnd}
 use Rattle.live_service.specs.declared.front.FrontEnd.TheVariants as front
 
 -- links were accepted one after another, each was answered with its copier in their order, and came back; the other copiers made nothing
-pub record HasServedLinks (file : Meaning) (reviews : Bool) (told now : Option (List AcceptedLink)) (old new : List Copies) (links : List ServedView) (v w : Pass) (x y : BoardPass) : Type 0 where
+pub record HasServedLinks (file : Meaning) (site : SiteView) (reviews : Bool) (told now : Option (List AcceptedLink)) (old new : List Copies) (links : List ServedView) (v w : Pass) (x y : BoardPass) : Type 0 where
   pub runs : List LinkRun
   pub others : List Copies
-  pub are : AllByRecursion (IsLinkRun file reviews) runs
+  pub are : AllByRecursion (IsLinkRun file site reviews) runs
   pub accepted : now ≡ with_links told (map accepted_of runs)
   pub old_are : old ≡ map (λ r. r.old) runs ++ others
   pub new_are : new ≡ map (λ r. r.new) runs ++ others
@@ -46,14 +47,14 @@ IsUnheard address before now links =
 pub record HasServedConsole (file : Meaning) (d e : BoardCallerView) (f g : FrontTold) (end : LinkEnd) (v w : Pass) : Type 0 where
   pub grown : HasGrown v w
   pub board_grown : HasGrown d.pass e.pass
-  pub answered : HasServed false (known_by_pass file v) (known_by_pass file w) (board_seen d.reviews d.pass) (board_seen d.reviews e.pass) f.copier g.copier f.console.left f.console.written g.console.written end
+  pub answered : HasServed (paged false) (known_by_pass file v) (known_by_pass file w) (board_seen d.reviews d.pass) (board_seen d.reviews e.pass) f.copier g.copier f.console.left f.console.written g.console.written end
   pub cause : HasLinkCause f.console g.console end
   pub net : g.net ≡ f.net
   pub no_lane : g.lanes ≡ f.lanes
 
 -- the requests of links were answered. The console was left alone
-pub record HasServedNet (file : Meaning) (d e : BoardCallerView) (f g : FrontTold) (old new : List Copies) (v w : Pass) : Type 0 where
-  pub served : HasServedLinks file d.reviews f.net.accepted g.net.accepted old new g.served v w d.pass e.pass
+pub record HasServedNet (file : Meaning) (site : SiteView) (d e : BoardCallerView) (f g : FrontTold) (old new : List Copies) (v w : Pass) : Type 0 where
+  pub served : HasServedLinks file site d.reviews f.net.accepted g.net.accepted old new g.served v w d.pass e.pass
   pub faults : f.net.faults ≤ g.net.faults
   pub copier : g.copier ≡ f.copier
   pub console : g.console ≡ f.console
@@ -71,9 +72,9 @@ pub record HasServedSome (asked : ServingAsked) (f g : FrontTold) : Type 0 where
 
 -- so many links, or any number
 abbrev pub HasAnsweredNet : Bool → Meaning → ServingAsked → BoardCallerView → BoardCallerView → FrontTold → FrontTold → FrontEnd → List Copies → List Copies → Pass → Pass → Type 0
-HasAnsweredNet false file asked d e f g front.Accepted old new v w = HasServedNet file d e f g old new v w × HasServedAll asked f g
-HasAnsweredNet false file asked d e f g front.ListenerFault old new v w = HasServedNet file d e f g old new v w × HasServedSome asked f g
-HasAnsweredNet true file asked d e f g end old new v w = HasServedOn file d e f g old new v w × IsNetEnd asked f.net g.net g.lanes end
+HasAnsweredNet false file asked d e f g front.Accepted old new v w = HasServedNet file (paged asked.page) d e f g old new v w × HasServedAll asked f g
+HasAnsweredNet false file asked d e f g front.ListenerFault old new v w = HasServedNet file (paged asked.page) d e f g old new v w × HasServedSome asked f g
+HasAnsweredNet true file asked d e f g end old new v w = HasServedOn file (offering asked.page) d e f g old new v w × IsNetEnd asked f.net g.net g.lanes end
 HasAnsweredNet false file asked d e f g _ old new v w = ⊥
 
 -- what was asked was answered, the console's requests or those of links, unless the listener failed
@@ -94,10 +95,10 @@ pub record IsFront (Answered : Pass → Pass → Type 0) (v w : Pass) : Type 0 w
 -- ---- as the calls tell it
 
 -- so many links were accepted and served, unless the listener failed, and all copiers are back
-pub record HasAccepted {A : Type 0} (b c : CallerView A) (d e : BoardCallerView) (s t : ServiceView) (links : ℕ) (result : Result (Unit {0}) Failed) : Type 0 where
+pub record HasAccepted {A : Type 0} (site : SiteView) (b c : CallerView A) (d e : BoardCallerView) (s t : ServiceView) (links : ℕ) (result : Result (Unit {0}) Failed) : Type 0 where
   pub gone : HasGoneOn b c
   pub board_gone : HasBoardGoneOn d e
-  pub served : HasServedLinks b.turn.start.file d.reviews s.net.accepted t.net.accepted s.copiers t.copiers t.served b.pass c.pass d.pass e.pass
+  pub served : HasServedLinks b.turn.start.file site d.reviews s.net.accepted t.net.accepted s.copiers t.copiers t.served b.pass c.pass d.pass e.pass
   pub faults : s.net.faults ≤ t.net.faults
   pub whole : OnOk result (length t.served ≡ links)
   pub most : length t.served ≤ links

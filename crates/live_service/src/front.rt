@@ -8,7 +8,7 @@ use crate::lanes::serve_on;
 use crate::links::{Serving, serve_links};
 use crate::parties::{Front, Parties};
 use cc_base::Failed;
-use rest_session::{LinkEnd, NoShutdown, serve};
+use rest_session::{LinkEnd, PageAlone, serve};
 use std::alloc::Global;
 use std::sync::Wait;
 use std::thread::Threads;
@@ -78,7 +78,7 @@ pub fn serve_front<'a, P: Parties, R: Threads + Wait + Sync>(
             &mut book,
             &mut board,
             &mut front.copier,
-            &NoShutdown,
+            &PageAlone(false),
             &mut front.console,
         );
         book.close();

@@ -1,6 +1,6 @@
 // Any number of links, so many at once, until a client asks the service to shut down.
-ghost use Rattle.std.specs.Prelude.{◌≡◌, ◌||◌, is_err, true};
-ghost use Rattle.live_service.specs.Asked.{HasSpace, asked_of};
+ghost use Rattle.std.specs.Prelude.{◌≡◌, ◌||◌, is_err, option_map};
+ghost use Rattle.live_service.specs.Asked.{HasSpace, asked_of, offering};
 ghost use Rattle.live_service.specs.Boards.{IsBoardCallerSince};
 ghost use Rattle.live_service.specs.Lanes.{HasRunLanes, HasServedAt, HasServedLane, lane_state};
 ghost use Rattle.live_service.specs.Links.{out_of_memory};
@@ -16,29 +16,37 @@ use cc_base::Failed;
 use cluster_gate::{Admin, Copier};
 use mover_workers::Caller;
 use net_links::Listener;
-use rest_session::{LinkEnd, Shutdown};
+use rest_parse::SiteCall;
+use rest_session::{LinkEnd, Site};
 use std::alloc::Global;
 use std::sync::Wait;
 use std::thread::{Threads, join};
 
-// A handle of the listener, which the links that it accepted may ask to shut down.
+// A handle of the listener, which the links that it accepted may ask to shut down, and whether they
+// may ask the page.
 #[derive(Drop)]
 struct Handle<'a, N> {
     listener: &'a N,
+    page: bool,
 }
 
-impl<'a, N: Listener> Shutdown for Handle<'a, N> {
-    ghost offered = { λ _. true };
+impl<'a, N: Listener> Site for Handle<'a, N> {
+    ghost use Rattle.live_service.specs.Asked.{offering};
 
-    fn is_offered(&self) -> bool {
-        true
+    ghost offers = { λ h. offering h.page };
+
+    fn offers(&self, call: SiteCall) -> bool {
+        match call {
+            SiteCall::Page => self.page,
+            SiteCall::Close => true,
+        }
     }
 
-    fn begin(&self) {
+    fn shut_down(&self) {
         self.listener.shut_down();
     }
 
-    fn has_begun(&self) -> bool {
+    fn is_shut(&self) -> bool {
         self.listener.is_shut()
     }
 }
@@ -65,12 +73,14 @@ fn serve_lane<'a, A: Admin, K: Copier, N: Listener + Drop, R: Threads + Wait + S
     board: &mut BoardCaller<'a, R>,
     copier: &mut K,
     mut listener: N,
+    page: bool,
 ) -> Lane<N>
 where
     N::Conn: Drop,
     ensures since { IsSince caller.old caller.new }
     ensures board_since { IsBoardCallerSince board.old board.new }
-    ensures served { HasServedLane caller.old.turn.start.file board.old.reviews
+    ensures served { HasServedLane caller.old.turn.start.file
+        (offering page) board.old.reviews
         (lane_state caller.old.pass board.old.pass (copier_of K.copies K.faults copier.old))
         (lane_state caller.new.pass board.new.pass (copier_of K.copies K.faults copier.new))
         (net_of N.faults N.accepted N.heard listener)
@@ -96,6 +106,7 @@ where
         };
         let handle = Handle {
             listener: &listener,
+            page,
         };
         let end = serve_one(rt, alloc, caller, board, copier, &handle, &mut link);
         wants = wants_after(end, wants);
@@ -127,13 +138,15 @@ fn serve_lanes<
     alloc: Global,
     mut callers: Callers<'a, R, A>,
     mut service: Service<K, N>,
+    page: bool,
     lanes: u32,
 ) -> (Callers<'a, R, A>, Service<K, N>, Result<(), Failed>)
 where
     N::Conn: Send + Drop,
     requires space { HasSpace service callers.book.pass.parts callers.board.pass.parts 0 lanes }
-    ensures ran { HasRunLanes callers.entry.book result.0.book callers.entry.board result.0.board
-        service result.1 lanes result.2 }
+    ensures ran { HasRunLanes (offering page)
+        callers.entry.book result.0.book callers.entry.board result.0.board service result.1 lanes
+        result.2 }
 {
     if lanes == 0 {
         return (callers, service, Ok(()));
@@ -149,11 +162,20 @@ where
         rt,
         move || -> (Callers<R, A>, Service<K, N>, Result<(), Failed>)
             requires { HasSpace service callers.book.pass.parts callers.board.pass.parts 0 fewer }
-            ensures { HasRunLanes callers.entry.book result.0.book callers.entry.board
-                result.0.board service result.1 fewer result.2 }
-        { serve_lanes(rt, alloc, callers, service, fewer) },
+            ensures { HasRunLanes (offering page)
+                callers.entry.book result.0.book callers.entry.board result.0.board service
+                result.1 fewer result.2 }
+        { serve_lanes(rt, alloc, callers, service, page, fewer) },
         move || {
-            let lane = serve_lane(rt, alloc, &mut caller, &mut board, &mut copier, listener);
+            let lane = serve_lane(
+                rt,
+                alloc,
+                &mut caller,
+                &mut board,
+                &mut copier,
+                listener,
+                page,
+            );
             (caller, board, copier, lane)
         },
     );
@@ -190,7 +212,14 @@ where
     let Ok(()) = service.listen(&serving.address) else {
         return (callers, service, FrontEnd::ListenerFault);
     };
-    let (callers, service, end) = serve_lanes(rt, alloc, callers, service, serving.links);
+    let (callers, service, end) = serve_lanes(
+        rt,
+        alloc,
+        callers,
+        service,
+        serving.page,
+        serving.links,
+    );
     match end {
         Ok(()) => (callers, service, FrontEnd::ShutDown),
         Err(Failed) => (callers, service, FrontEnd::ListenerFault),

@@ -4,6 +4,7 @@ ghost use Rattle.cc_base.specs.Outside.{HasRisen};
 ghost use Rattle.mover_rounds.specs.Made.{copier_of};
 ghost use Rattle.mover_workers.specs.Callers.{Belongs, HasGrown, known_by_pass};
 ghost use Rattle.rest_session.specs.Answered.{HasServed};
+ghost use Rattle.rest_session.specs.Heard.{paged};
 ghost use Rattle.live_service.specs.Boards.{BelongsToBoard, board_seen};
 
 use crate::boards::BoardCaller;
@@ -11,7 +12,7 @@ use cc_base::Link;
 use cluster_gate::{Admin, Copier};
 use control_core::Book;
 use mover_workers::Caller;
-use rest_session::{LinkEnd, NoShutdown, serve};
+use rest_session::{LinkEnd, PageAlone, serve};
 use review_board::{Board, NoBoard};
 use std::alloc::Global;
 use std::sync::Wait;
@@ -34,7 +35,7 @@ pub fn serve_link<A: Admin, K: Copier, L: Link, R: Threads + Wait + Sync>(
     ensures own { Belongs turn.now result.0 }
     ensures grown { HasGrown pass result.0 }
     // The requests were answered, each by the reply to its own entries.
-    ensures served { HasServed false (known_by_pass turn.now.start.file pass)
+    ensures served { HasServed (paged false) (known_by_pass turn.now.start.file pass)
         (known_by_pass turn.now.start.file result.0) None None
         (copier_of K.copies K.faults copier.old) (copier_of K.copies K.faults copier.new)
         (L.left link.old) (L.written link.old) (L.written link.new) result.1 }
@@ -53,7 +54,7 @@ pub fn serve_link<A: Admin, K: Copier, L: Link, R: Threads + Wait + Sync>(
         &mut caller,
         &mut NoBoard,
         copier,
-        &NoShutdown,
+        &PageAlone(false),
         link,
     );
     (caller.into_pass(), end)
@@ -80,7 +81,7 @@ pub fn serve_reviewed<A: Admin, K: Copier, L: Link, R: Threads + Wait + Sync>(
     ensures board_own { BelongsToBoard board.now result.1 }
     ensures board_grown { HasGrown board_pass result.1 }
     // The requests were answered, each by the reply to its own entries in the book and on the board.
-    ensures served { HasServed false (known_by_pass turn.now.start.file pass)
+    ensures served { HasServed (paged false) (known_by_pass turn.now.start.file pass)
         (known_by_pass turn.now.start.file result.0) (board_seen true board_pass)
         (board_seen true result.1) (copier_of K.copies K.faults copier.old)
         (copier_of K.copies K.faults copier.new) (L.left link.old) (L.written link.old)
@@ -101,7 +102,7 @@ pub fn serve_reviewed<A: Admin, K: Copier, L: Link, R: Threads + Wait + Sync>(
         &mut caller,
         &mut board,
         copier,
-        &NoShutdown,
+        &PageAlone(false),
         link,
     );
     (caller.into_pass(), board.into_pass(), end)

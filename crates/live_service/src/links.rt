@@ -2,12 +2,12 @@
 ghost use Rattle.std.specs.Prelude.{◌≡◌, OnErr, OnOk, string_bytes};
 ghost use Rattle.cc_base.specs.Outside.{with_name};
 ghost use Rattle.live_service.specs.Asked.{HasSpace};
+ghost use Rattle.rest_session.specs.Heard.{paged};
 ghost use Rattle.mover_rounds.specs.Made.{copier_of};
 ghost use Rattle.mover_workers.specs.Callers.{IsSince, known_by_caller};
-ghost use Rattle.rest_session.specs.Answered.{HasServed};
 ghost use Rattle.live_service.specs.Boards.{IsBoardCallerSince, board_seen};
 ghost use Rattle.live_service.specs.Fronts.{HasAccepted, HasTried, IsUnheard};
-ghost use Rattle.live_service.specs.Links.{HasLinkCause};
+ghost use Rattle.live_service.specs.Links.{HasServedLink};
 ghost use Rattle.live_service.specs.Views.{link_of};
 
 use crate::boards::{BoardCaller, Callers};
@@ -16,7 +16,7 @@ use cc_base::Failed;
 use cluster_gate::{Admin, Copier};
 use mover_workers::Caller;
 use net_links::{Connection, Listener};
-use rest_session::{LinkEnd, NoShutdown, Shutdown, serve};
+use rest_session::{LinkEnd, PageAlone, Site, serve};
 use std::alloc::Global;
 use std::sync::Wait;
 use std::thread::{Threads, join};
@@ -30,30 +30,30 @@ pub struct Serving {
     pub links: u32,
     /// Any number, and so many at once, until a client asks the service to shut down.
     pub forever: bool,
+    /// Whether there is a page, at `/`.
+    pub page: bool,
 }
 
 /// Answers the requests of a link until it ends, and closes it.
-pub fn serve_one<'a, A: Admin, K: Copier, D: Shutdown, C: Connection, R: Threads + Wait + Sync>(
+pub fn serve_one<'a, A: Admin, K: Copier, D: Site, C: Connection, R: Threads + Wait + Sync>(
     rt: &R,
     alloc: Global,
     caller: &mut Caller<'a, R, A>,
     board: &mut BoardCaller<'a, R>,
     copier: &mut K,
-    shutdown: &D,
+    site: &D,
     link: &mut C,
 ) -> LinkEnd
     ensures since { IsSince caller.old caller.new }
     ensures board_since { IsBoardCallerSince board.old board.new }
-    ensures served { HasServed (D.offered shutdown.now) (known_by_caller caller.old)
-        (known_by_caller caller.new)
+    ensures served { HasServedLink (D.offers site.now)
+        (known_by_caller caller.old) (known_by_caller caller.new)
         (board_seen board.old.reviews board.old.pass) (board_seen board.new.reviews board.new.pass)
         (copier_of K.copies K.faults copier.old) (copier_of K.copies K.faults copier.new)
-        (C.left link.old) (C.written link.old) (C.written link.new) result }
-    ensures cause { HasLinkCause
         (link_of C.left C.written C.Source.faults C.Sink.faults link.old)
         (link_of C.left C.written C.Source.faults C.Sink.faults link.new) result }
 {
-    let end = serve(rt, alloc, caller, board, copier, shutdown, link);
+    let end = serve(rt, alloc, caller, board, copier, site, link);
     link.close();
     end
 }
@@ -72,13 +72,14 @@ fn accept_links<
     alloc: Global,
     mut callers: Callers<'a, R, A>,
     mut service: Service<K, N>,
+    page: bool,
     links: u32,
 ) -> (Callers<'a, R, A>, Service<K, N>, Result<(), Failed>)
 where
     N::Conn: Send + Drop,
     requires space { HasSpace service callers.book.pass.parts callers.board.pass.parts 0 links }
-    ensures accepted { HasAccepted callers.entry.book result.0.book callers.entry.board
-        result.0.board service result.1 links result.2 }
+    ensures accepted { HasAccepted (paged page) callers.entry.book result.0.book
+        callers.entry.board result.0.board service result.1 links result.2 }
     ensures tried { HasTried service result.1 result.2 }
 {
     if links == 0 {
@@ -95,10 +96,10 @@ where
         rt,
         move || -> (Callers<R, A>, Service<K, N>, Result<(), Failed>)
             requires { HasSpace service callers.book.pass.parts callers.board.pass.parts 0 fewer }
-            ensures { HasAccepted callers.entry.book result.0.book callers.entry.board
-                result.0.board service result.1 fewer result.2
+            ensures { HasAccepted (paged page) callers.entry.book result.0.book
+                callers.entry.board result.0.board service result.1 fewer result.2
                 × HasTried service result.1 result.2 }
-        { accept_links(rt, alloc, callers, service, fewer) },
+        { accept_links(rt, alloc, callers, service, page, fewer) },
         move || {
             let end = serve_one(
                 rt,
@@ -106,7 +107,7 @@ where
                 &mut caller,
                 &mut board,
                 &mut copier,
-                &NoShutdown,
+                &PageAlone(page),
                 &mut link,
             );
             (caller, board, copier, Served { link, end })
@@ -143,15 +144,16 @@ where
     N::Conn: Send + Drop,
     requires space { HasSpace service callers.book.pass.parts callers.board.pass.parts 0
         serving.now.links }
-    ensures accepted { HasAccepted callers.entry.book result.0.book callers.entry.board
-        result.0.board service result.1 serving.now.links result.2 }
+    ensures accepted { HasAccepted (paged serving.now.page) callers.entry.book
+        result.0.book callers.entry.board result.0.board service result.1 serving.now.links
+        result.2 }
     ensures heard { OnOk result.2 (result.1.net.heard
         ≡ with_name service.net.heard (string_bytes serving.now.address)) }
     ensures unheard { OnErr result.2 (IsUnheard (string_bytes serving.now.address) service.net
         result.1.net result.1.served) }
 {
     match service.listen(&serving.address) {
-        Ok(()) => accept_links(rt, alloc, callers, service, serving.links),
+        Ok(()) => accept_links(rt, alloc, callers, service, serving.page, serving.links),
         Err(failed) => (callers, service, Err(failed)),
     }
 }

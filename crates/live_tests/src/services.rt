@@ -75,6 +75,7 @@ fn serving_of<R: Abort>(rt: &R, alloc: Global, links: Option<u32>) -> Option<Ser
                 address,
                 links,
                 forever: false,
+                page: false,
             })
         }
         None => None,

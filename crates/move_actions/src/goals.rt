@@ -2,6 +2,7 @@
 ghost use Rattle.goal_terms.specs.Pairs.{ColdPairs, IdleTrades, StillParts, giver, taker};
 ghost use Rattle.goal_terms.specs.Quantity.{Weights, part_weight, total};
 ghost use Rattle.goal_terms.specs.Rooms.{RoomsDecide};
+ghost use Rattle.goal_terms.specs.Verdicts.{VerdictsStay};
 ghost use Rattle.goal_terms.specs.declared.room.Room.{Room};
 ghost use Rattle.plan_terms.specs.declared.actions.Action.{Action};
 ghost use Rattle.goal_terms.specs.declared.heat.Heat.{Heat};
@@ -142,6 +143,11 @@ pub trait Goal {
         → (a : Action) → IsTrue (fits lists a)
         → (k : ℕ) → (k ≡ giver lists a → ⊥) → (k ≡ taker a → ⊥)
         → room_at g c (after a lists) k ≡ room_at g c lists k };
+
+    /// An action leaves what the goal says of every other that shares no broker and no partition
+    /// with it.
+    ghost verdicts_stay: { (g : Self) (c : Cluster) (lists : Lists) → made_for g c → IsCase c
+        → Belongs c lists → VerdictsStay (meaning g c) lists };
 }
 
 /// The sum of a goal's excesses, below 2^120. The goal is met where it is 0.

@@ -79,6 +79,7 @@ impl<R: ListRule> Goal for PartitionGoal<R> {
     ghost use Rattle.goal_terms.proofs.CaseLemmas.{Limits-case};
     ghost use Rattle.goal_terms.proofs.PairLemmas.{hot-cold_pairs};
     ghost use Rattle.goal_terms.proofs.PartitionHeat.{partition-still_parts};
+    ghost use Rattle.goal_terms.proofs.VerdictLemmas.{partition-verdicts_stay};
     ghost use Rattle.plan_terms.proofs.PartitionLemmas.{per_partition-fits_120_bits};
 
     ghost meaning = { λ g c. per_partition (R.hard g.rule) (R.list_excess g.rule c) c };
@@ -195,4 +196,7 @@ impl<R: ListRule> Goal for PartitionGoal<R> {
     ghost rooms_decide = { λ _ _ _ _ _ _. tt };
 
     ghost rooms_stay = { λ _ _ _ _ _ _ _ _ _ _ _. free };
+
+    ghost verdicts_stay = { λ g c lists _ _ _. partition-verdicts_stay (R.hard g.rule)
+        (R.list_excess g.rule c) c lists };
 }

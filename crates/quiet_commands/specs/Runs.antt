@@ -83,13 +83,17 @@ Performs asked m e end = Did asked m e end
 
 -- ---- the files that are loaded
 
--- what was read is what the bytes mean, where they are told; a refusal is their first fault, and its line tells it; a fault was counted, of
--- a command that reads a file
+-- what was read is what the text means, where it is told; a refusal is the text's first fault, and its line tells it; and where the text
+-- wasn't had, the cause holds
+abbrev pub ReadsFrom : Option (List ℕ) → Type 0 → Result ClusterFile LoadFault → Type 0
+ReadsFrom text Cause (Ok file) = IfSome text (λ bytes. Means bytes (file_seen file))
+ReadsFrom text Cause (Err (fault.Refused line)) = (f : Fault) × IfSome text (λ bytes. IsRefused bytes f) × (line.items ≡ refusal_line f)
+ReadsFrom text Cause (Err fault.Failed) = Cause
+ReadsFrom text Cause (Err fault.Memory) = Unit {0}
+
+-- so of the text that a command's cluster is read from; it wasn't had only of a command that reads a file, and a fault was counted
 abbrev pub Loads : (List ℕ → Option (List ℕ)) → Asked → ℕ → ℕ → Result ClusterFile LoadFault → Type 0
-Loads told asked before now (Ok file) = IfSome (source_of told asked) (λ bytes. Means bytes (file_seen file))
-Loads told asked before now (Err (fault.Refused line)) = (f : Fault) × IfSome (source_of told asked) (λ bytes. IsRefused bytes f) × (line.items ≡ refusal_line f)
-Loads told asked before now (Err fault.Failed) = HasFile asked × HasRisen before now
-Loads told asked before now (Err fault.Memory) = Unit {0}
+Loads told asked before now result = ReadsFrom (source_of told asked) (HasFile asked × HasRisen before now) result
 
 -- a refusal with the line of the fault that is told, unless memory ran out
 abbrev pub TellsRefusal : Option Fault → LoadFault → Type 0
@@ -97,12 +101,12 @@ TellsRefusal told (fault.Refused line) = (f : Fault) × (told ≡ Some f) × (li
 TellsRefusal told fault.Failed = ⊥
 TellsRefusal told fault.Memory = Unit {0}
 
--- the file of a cluster that was read, refused or not, is in the log; that of one that was not may be
-abbrev pub LoadLogs : Option (List (List ℕ)) → Option (List (List ℕ)) → Asked → Result ClusterFile LoadFault → Type 0
-LoadLogs old new asked (Ok file) = new ≡ with_source old asked
-LoadLogs old new asked (Err (fault.Refused line)) = new ≡ with_source old asked
-LoadLogs old new asked (Err fault.Failed) = (new ≡ old) ⊎ (new ≡ with_source old asked)
-LoadLogs old new asked (Err fault.Memory) = (new ≡ old) ⊎ (new ≡ with_source old asked)
+-- where a cluster was read, refused or not, the log has its file; where it was not, the log may have it
+abbrev pub HasLoaded : Option (List (List ℕ)) → Option (List (List ℕ)) → Option (List (List ℕ)) → Result ClusterFile LoadFault → Type 0
+HasLoaded old new loaded (Ok file) = new ≡ loaded
+HasLoaded old new loaded (Err (fault.Refused line)) = new ≡ loaded
+HasLoaded old new loaded (Err fault.Failed) = (new ≡ old) ⊎ (new ≡ loaded)
+HasLoaded old new loaded (Err fault.Memory) = (new ≡ old) ⊎ (new ≡ loaded)
 
 -- the names of the files that were loaded, with those of a command at their end: FILE before TRACE
 abbrev pub with_files : Option (List (List ℕ)) → Asked → Option (List (List ℕ))

@@ -90,39 +90,57 @@ pub fn read_request(alloc: Global, words: &[String]) -> Result<Request, WordsFau
         (λ e. e ≡ WordsFault.Usage → command (map string_bytes words.now) ≡ None) }
 {
     match read_words(alloc, words)? {
-        Command::Plan(options) => Ok(Request::Plan {
-            file: options.file,
-            trace: options.trace,
-            planning: rebalance(alloc, options.goals, options.excluded_topics)?,
+        Command::Plan {
+            file,
+            goals,
+            excluded_topics,
+            trace,
+        } => Ok(Request::Plan {
+            file,
+            trace,
+            planning: rebalance(alloc, goals, excluded_topics)?,
         }),
-        Command::Check(options) => Ok(Request::Check {
-            file: options.file,
-            trace: options.trace,
-            planning: rebalance(alloc, options.goals, options.excluded_topics)?,
+        Command::Check {
+            file,
+            trace,
+            goals,
+            excluded_topics,
+        } => Ok(Request::Check {
+            file,
+            trace,
+            planning: rebalance(alloc, goals, excluded_topics)?,
         }),
-        Command::Apply(options) => Ok(Request::Apply {
-            file: options.file,
-            planning: rebalance(alloc, options.goals, options.excluded_topics)?,
+        Command::Apply {
+            file,
+            goals,
+            excluded_topics,
+        } => Ok(Request::Apply {
+            file,
+            planning: rebalance(alloc, goals, excluded_topics)?,
         }),
-        Command::Gen(options) => {
+        Command::Gen {
+            seed,
+            brokers,
+            partitions,
+            goals,
+            whole,
+        } => {
             let recipe = Recipe {
-                seed: options.seed,
-                brokers: options.brokers,
-                partitions: options.partitions,
+                seed,
+                brokers,
+                partitions,
             };
             Ok(Request::Gen {
                 recipe,
-                whole: options.file,
-                planning: rebalance(alloc, options.goals, Vec::new(alloc))?,
+                whole,
+                planning: rebalance(alloc, goals, Vec::new(alloc))?,
             })
         }
-        Command::Session(options) if options.workers.movers == 0 && options.workers.planners == 0 =>
-            {
-                Ok(Request::Session {
-                    file: options.file,
-                    review: options.review,
-                })
-            }
+        Command::Session {
+            file,
+            workers,
+            review,
+        } if workers.movers == 0 && workers.planners == 0 => Ok(Request::Session { file, review }),
         _ => Err(WordsFault::Usage),
     }
 }

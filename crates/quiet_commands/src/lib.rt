@@ -15,8 +15,7 @@ mod plans;
 mod quiet;
 mod sessions;
 
-pub use commands::Request;
 pub use ends::{End, conclude};
 pub use laws::every_quiet_run;
-pub use quiet::{LoadFault, load, run_quiet};
+pub use quiet::{LoadFault, load_file, run_quiet};
 pub use sessions::{drained_end, ended_by};

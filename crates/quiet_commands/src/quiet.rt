@@ -1,16 +1,16 @@
 // The commands that wait for nobody.
-ghost use Rattle.std.specs.Prelude.{◌≡◌, ◌≤◌, ◌⊎◌, map, string_bytes, IfOk, IfSome, IsErrOf, OnErr, OnOk};
+ghost use Rattle.std.specs.Prelude.{◌≡◌, ◌≤◌, ◌⊎◌, Some, map, string_bytes, IfOk, IsErrOf, OnErr, OnOk};
 ghost use Rattle.cc_base.specs.Outside.{HasRisen, with_name};
 ghost use Rattle.cluster_json.specs.Ranges.{IsFile};
 ghost use Rattle.cluster_json.specs.Reading.{fault_of};
 ghost use Rattle.cluster_json.specs.Views.{file_seen};
 ghost use Rattle.core_terms.specs.Asked.{goals_of};
 ghost use Rattle.quiet_commands.specs.Checked.{IsChecked};
-ghost use Rattle.quiet_commands.specs.Commands.{AsksSession, HasFile, IsInputKept, asked, source_of, with_source};
+ghost use Rattle.quiet_commands.specs.Commands.{AsksSession, IsInputKept, asked, with_source};
 ghost use Rattle.quiet_commands.specs.Edges.{edge_view};
 ghost use Rattle.quiet_commands.specs.Ends.{IsTold, line_of, status_of};
 ghost use Rattle.quiet_commands.specs.Input.{planned_for};
-ghost use Rattle.quiet_commands.specs.Runs.{LoadLogs, Loads, Logs, PerformLogs, Performs, Runs, TellsRefusal};
+ghost use Rattle.quiet_commands.specs.Runs.{HasLoaded, Loads, Logs, PerformLogs, Performs, ReadsFrom, Runs, TellsRefusal};
 ghost use Rattle.quiet_commands.specs.declared.ends.End.{End};
 
 use crate::answers::{Answer, write};
@@ -52,45 +52,54 @@ fn refused(alloc: Global, refusal: &FileRefusal) -> LoadFault
     }
 }
 
-// The bytes that a command's cluster is read from.
-fn source<F: Files>(alloc: Global, files: &mut F, request: &Request) -> Result<Vec<u8>, FileFault>
-    ensures later { F.faults files.old ≤ F.faults files.new }
-    ensures cause { IsErrOf result FileFault.Failed → HasFile (asked request.now)
-        × HasRisen (F.faults files.old) (F.faults files.new) }
-    ensures bytes { IfOk result (λ v. IfSome (source_of (F.contents files.old) (asked request.now))
-        (λ told. v.items ≡ told)) }
-    ensures contents { F.contents files.new ≡ F.contents files.old }
-    ensures read { OnOk result (F.log files.new
-        ≡ with_source (F.log files.old) (asked request.now)) }
-    ensures failed { OnErr result ((F.log files.new ≡ F.log files.old)
-        ⊎ (F.log files.new ≡ with_source (F.log files.old) (asked request.now))) }
+// The cluster of a text.
+fn read(alloc: Global, text: &[u8]) -> Result<ClusterFile, LoadFault>
+    ensures reads { ReadsFrom (Some text.now) ⊥ result }
+    ensures file { IfOk result IsFile }
 {
-    match request {
-        Request::Plan { file, .. } => files.load(alloc, file),
-        Request::Check { file, .. } => files.load(alloc, file),
-        Request::Apply { file, .. } => files.load(alloc, file),
-        Request::Gen { recipe, .. } => Ok(recipe.text(alloc)?),
-        Request::Session { file, .. } => files.load(alloc, file),
+    read_cluster(alloc, text).map_err(|e| refused(alloc, &e))
+}
+
+/// Loads the cluster of a file.
+pub fn load_file<F: Files>(
+    alloc: Global,
+    files: &mut F,
+    name: &str,
+) -> Result<ClusterFile, LoadFault>
+    ensures later { F.faults files.old ≤ F.faults files.new }
+    ensures loads { ReadsFrom (F.contents files.old name.now)
+        (HasRisen (F.faults files.old) (F.faults files.new)) result }
+    ensures file { IfOk result IsFile }
+    ensures contents { F.contents files.new ≡ F.contents files.old }
+    ensures logs { HasLoaded (F.log files.old) (F.log files.new)
+        (with_name (F.log files.old) name.now) result }
+{
+    match files.load(alloc, name) {
+        Ok(bytes) => read(alloc, &bytes),
+        Err(FileFault::Failed) => Err(LoadFault::Failed),
+        Err(FileFault::Memory) => Err(LoadFault::Memory),
     }
 }
 
-/// Loads the cluster that a request is about.
-pub fn load<F: Files>(
-    alloc: Global,
-    files: &mut F,
-    request: &Request,
-) -> Result<ClusterFile, LoadFault>
+// The cluster that a request is about.
+fn load<F: Files>(alloc: Global, files: &mut F, request: &Request) -> Result<ClusterFile, LoadFault>
     ensures later { F.faults files.old ≤ F.faults files.new }
     ensures loads { Loads (F.contents files.old) (asked request.now)
         (F.faults files.old) (F.faults files.new) result }
     ensures file { IfOk result IsFile }
     ensures contents { F.contents files.new ≡ F.contents files.old }
-    ensures logs { LoadLogs (F.log files.old) (F.log files.new) (asked request.now) result }
+    ensures logs { HasLoaded (F.log files.old) (F.log files.new)
+        (with_source (F.log files.old) (asked request.now)) result }
 {
-    match source(alloc, files, request) {
-        Ok(bytes) => read_cluster(alloc, &bytes).map_err(|e| refused(alloc, &e)),
-        Err(FileFault::Failed) => Err(LoadFault::Failed),
-        Err(FileFault::Memory) => Err(LoadFault::Memory),
+    match request {
+        Request::Plan { file, .. }
+        | Request::Check { file, .. }
+        | Request::Apply { file, .. }
+        | Request::Session { file, .. } => load_file(alloc, files, file),
+        Request::Gen { recipe, .. } => match recipe.text(alloc) {
+            Ok(text) => read(alloc, &text),
+            Err(Memory) => Err(LoadFault::Memory),
+        },
     }
 }
 

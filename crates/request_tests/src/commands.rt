@@ -29,26 +29,36 @@ fn push_forever(rt: &impl Abort, text: &mut String, forever: bool) {
     push(rt, text, if forever { " forever" } else { "" });
 }
 
-// A command without goals, topics, reviews and `--forever`, in words.
+fn push_page(rt: &impl Abort, text: &mut String, page: bool) {
+    push(rt, text, if page { " page" } else { "" });
+}
+
+// A command without goals, topics and flags of a service, in words.
 fn begun(rt: &impl Abort, alloc: Global, command: &Command) -> String {
     let said = match command {
-        Command::Plan(o) => format!(in alloc; "plan {} {}", o.file, o.trace),
-        Command::Check(o) => format!(in alloc; "check {} {}", o.file, o.trace),
-        Command::Apply(o) => format!(in alloc; "apply {}", o.file),
-        Command::Gen(o) => format!(in alloc;
-            "gen {} {} {} {}",
-            o.seed, o.brokers, o.partitions, o.file
-        ),
-        Command::Session(o) => {
-            let Workers { movers, planners } = o.workers;
-            format!(in alloc; "session {} {movers} {planners}", o.file)
+        Command::Plan { file, trace, .. } => format!(in alloc; "plan {file} {trace}"),
+        Command::Check { file, trace, .. } => format!(in alloc; "check {file} {trace}"),
+        Command::Apply { file, .. } => format!(in alloc; "apply {file}"),
+        Command::Gen {
+            seed,
+            brokers,
+            partitions,
+            whole,
+            ..
+        } => format!(in alloc; "gen {seed} {brokers} {partitions} {whole}"),
+        Command::Session { file, workers, .. } => {
+            let Workers { movers, planners } = *workers;
+            format!(in alloc; "session {file} {movers} {planners}")
         }
-        Command::Serve(o) => {
-            let Workers { movers, planners } = o.workers;
-            format!(in alloc;
-                "serve {} {movers} {planners} {} {}",
-                o.file, o.listen, o.links
-            )
+        Command::Serve {
+            file,
+            workers,
+            listen,
+            links,
+            ..
+        } => {
+            let Workers { movers, planners } = *workers;
+            format!(in alloc; "serve {file} {movers} {planners} {listen} {links}")
         }
     };
     said.expect(rt, "memory")
@@ -58,23 +68,35 @@ fn begun(rt: &impl Abort, alloc: Global, command: &Command) -> String {
 fn told(rt: &impl Abort, alloc: Global, command: &Command) -> String {
     let mut text = begun(rt, alloc, command);
     match command {
-        Command::Plan(o) => {
-            push_goals(rt, &mut text, &o.goals);
-            push_topics(rt, &mut text, &o.excluded_topics);
+        Command::Plan {
+            goals,
+            excluded_topics,
+            ..
         }
-        Command::Check(o) => {
-            push_goals(rt, &mut text, &o.goals);
-            push_topics(rt, &mut text, &o.excluded_topics);
+        | Command::Check {
+            goals,
+            excluded_topics,
+            ..
         }
-        Command::Apply(o) => {
-            push_goals(rt, &mut text, &o.goals);
-            push_topics(rt, &mut text, &o.excluded_topics);
+        | Command::Apply {
+            goals,
+            excluded_topics,
+            ..
+        } => {
+            push_goals(rt, &mut text, goals);
+            push_topics(rt, &mut text, excluded_topics);
         }
-        Command::Gen(o) => push_goals(rt, &mut text, &o.goals),
-        Command::Session(o) => push_review(rt, &mut text, o.review),
-        Command::Serve(o) => {
-            push_review(rt, &mut text, o.review);
-            push_forever(rt, &mut text, o.forever);
+        Command::Gen { goals, .. } => push_goals(rt, &mut text, goals),
+        Command::Session { review, .. } => push_review(rt, &mut text, *review),
+        Command::Serve {
+            review,
+            forever,
+            page,
+            ..
+        } => {
+            push_review(rt, &mut text, *review);
+            push_forever(rt, &mut text, *forever);
+            push_page(rt, &mut text, *page);
         }
     }
     text
@@ -91,7 +113,7 @@ fn split(rt: &impl Abort, alloc: Global, line: &str) -> Vec<String> {
 }
 
 // Words that are taken, and what they mean.
-const LINES: [(&str, &str); 36] = [
+const LINES: [(&str, &str); 37] = [
     ("plan F", "plan F false"),
     ("plan F --goals A", "plan F false goal A"),
     ("plan F --goals=A,B", "plan F false goal A goal B"),
@@ -145,6 +167,10 @@ const LINES: [(&str, &str); 36] = [
     ("serve F --links=1", "serve F 0 0 127.0.0.1:9090 1"),
     ("serve --review F", "serve F 0 0 127.0.0.1:9090 1 review"),
     ("serve F --forever", "serve F 0 0 127.0.0.1:9090 16 forever"),
+    (
+        "serve --page F --forever",
+        "serve F 0 0 127.0.0.1:9090 16 forever page",
+    ),
     (
         "serve --forever F --links 1",
         "serve F 0 0 127.0.0.1:9090 1 forever",

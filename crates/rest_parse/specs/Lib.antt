@@ -1,5 +1,5 @@
 pub mod Calls
-pub mod Ends
+pub mod Sites
 pub mod Parameters
 pub mod Query
 pub mod ReviewPairs

@@ -3,7 +3,6 @@
 #![tactic(auto)]
 
 mod calls;
-mod ends;
 mod faulty;
 mod lists;
 mod parameters;
@@ -11,8 +10,9 @@ mod query;
 mod review_pairs;
 mod reviews;
 mod routes;
+mod sites;
 
 pub use calls::{Call, HttpFault, ParameterName, request_of};
-pub use ends::{asks_end, end_of};
 pub use reviews::{ReviewCall, reviewed_of};
 pub use routes::{Endpoint, Routes};
+pub use sites::{SiteCall, read_site, site_call};

@@ -17,7 +17,7 @@ use Rattle.review_board.specs.declared.events.BoardReply.{BoardReply}
 use Rattle.review_board.specs.declared.events.BoardReply.TheVariants as board
 use Rattle.rest_replies.specs.Bodies.{caps_data, cluster_data, decided_data, done_data, ended_data, ending_data, error_data, failed_data, filed_data, killed_data, loads_data, open_data, pumped_data, rows_data, sampled_data, state_data, stopped_data, tasks_data}
 use Rattle.rest_replies.specs.Refusals.{Refused, board_refusal, core_refusal, http_refusal, no_memory, step_refusal, stop_refusal, with_number}
-use Rattle.rest_replies.specs.Texts.{head_text, reply_text}
+use Rattle.rest_replies.specs.Texts.{head_text, page_text, reply_text}
 use Rattle.rest_replies.specs.declared.answer.Answer.{Answer}
 use Rattle.rest_replies.specs.declared.texts.Code.{Code}
 use Rattle.rest_replies.specs.declared.texts.Code.TheVariants as code
@@ -94,7 +94,7 @@ board_result r = None
 abbrev pub board_answer : BoardReply → Option AnswerView
 board_answer r = option_or (board_result r) (option_map refused (board_refusal r))
 
--- of what is told
+-- of what is told; the page has none
 abbrev pub answer_of : Told → Option AnswerView
 answer_of (told.Core r) = core_answer r
 answer_of (told.Step fault) = option_map refused (step_refusal fault)
@@ -104,6 +104,7 @@ answer_of (told.Http fault) = option_map refused (http_refusal fault)
 answer_of (told.Stopped why) = option_map refused (stop_refusal why)
 answer_of (told.Board r) = board_answer r
 answer_of told.Ending = Some (ok_answer ending_data)
+answer_of told.Page = None
 
 -- the bytes of a reply; none where there is no reply
 abbrev pub bytes_of : Option AnswerView → List ℕ
@@ -112,6 +113,7 @@ bytes_of (Some a) = reply_text a.code a.task (compact_text a.body)
 
 -- the bytes of the reply that tells so
 abbrev pub reply_of : Told → List ℕ
+reply_of told.Page = page_text
 reply_of t = bytes_of (answer_of t)
 
 -- what a client reads: behind the head, which says how many bytes it has, stands a text that is JSON of the body

@@ -14,6 +14,7 @@ use Rattle.core_terms.specs.declared.shows.ExecutorState.TheVariants as executor
 use Rattle.review_board.specs.declared.events.ReviewState.{ReviewState}
 use Rattle.review_board.specs.declared.events.ReviewState.TheVariants as review
 use Rattle.plan_terms.specs.Bytes.{line_feed, carriage_return, slash}
+use Rattle.rest_replies.specs.declared.page.TheConstants.{PAGE}
 use Rattle.rest_replies.specs.declared.texts.Code.{Code}
 use Rattle.rest_replies.specs.declared.texts.Code.TheVariants as code
 
@@ -86,17 +87,25 @@ abbrev pub task_line : Option (List ℕ) → List ℕ
 task_line None = []
 task_line (Some id) = codes "User-Task-ID: " ++ (hyphenated_text lower id ++ line_end)
 
--- the head of a reply with this status, a body of so many bytes, and these further lines; an empty line ends it
-abbrev pub head_with : List ℕ → ℕ → List ℕ → List ℕ
-head_with status len lines =
+-- the head of a reply with this status, a body of this kind and of so many bytes, and these further lines; an empty line ends it
+abbrev pub head_with : List ℕ → List ℕ → ℕ → List ℕ → List ℕ
+head_with status kind len lines =
     codes "HTTP/1.1 " ++ (status ++ (line_end
-    ++ (codes "Content-Type: application/json" ++ (line_end
+    ++ (codes "Content-Type: " ++ (kind ++ (line_end
     ++ (codes "Content-Length: " ++ (decimal len ++ (line_end
-    ++ (lines ++ line_end))))))))
+    ++ (lines ++ line_end)))))))))
 
 -- the head of a reply with a body of so many bytes
 unfoldable pub head_text : Code → Option (List ℕ) → ℕ → List ℕ
-head_text code task len = head_with (status_text code) len (task_line task)
+head_text code task len = head_with (status_text code) (codes "application/json") len (task_line task)
+
+-- the head of a page of so many bytes, which no other page may frame
+unfoldable pub page_head : ℕ → List ℕ
+page_head len = head_with (status_text code.Ok) (codes "text/html; charset=utf-8") len (codes "X-Frame-Options: DENY" ++ line_end)
+
+-- the page: its head and its text
+unfoldable pub page_text : List ℕ
+page_text = page_head (length PAGE.now) ++ PAGE.now
 
 -- a reply: its head and its body
 abbrev pub reply_text : Code → Option (List ℕ) → List ℕ → List ℕ

@@ -208,7 +208,7 @@ fn board_answer(alloc: Global, reply: &BoardReply) -> Result<Option<Answer>, Mem
     }
 }
 
-/// The reply to what is told; none where nothing is to be written.
+/// The reply to what is told; none where nothing is to be written, or the page.
 pub fn answer_of(alloc: Global, told: &Told) -> Result<Option<Answer>, Memory>
     ensures { IfOk result (λ o. option_map answer_seen o ≡ answer_of told.now) }
 {
@@ -230,5 +230,6 @@ pub fn answer_of(alloc: Global, told: &Told) -> Result<Option<Answer>, Memory>
         }
         Told::Board(reply) => board_answer(alloc, reply),
         Told::Ending => Ok(Some(ok(ending_value(alloc)?))),
+        Told::Page => Ok(None),
     }
 }

@@ -7,6 +7,7 @@ mod answers;
 mod boards;
 mod bodies;
 mod laws;
+mod page;
 mod refusals;
 mod replies;
 mod shows;

@@ -1,6 +1,6 @@
 // Texts of replies.
 ghost use Rattle.std.specs.Prelude.{◌≡◌, string_bytes, IfOk};
-ghost use Rattle.rest_replies.specs.Texts.{broker_state_text, endpoint_text, executor_state_text, head_text, head_with, last_part, last_part_text, review_state_text, status_text, task_line, task_status_text};
+ghost use Rattle.rest_replies.specs.Texts.{broker_state_text, endpoint_text, executor_state_text, head_text, head_with, page_head, last_part, last_part_text, review_state_text, status_text, task_line, task_status_text};
 
 use core_terms::ExecutorState;
 use plan_terms::{BrokerState, Memory};
@@ -148,13 +148,36 @@ fn task_line(alloc: Global, task: Option<Uuid>) -> Result<String, Memory>
     Ok(format!(in alloc; "User-Task-ID: {id}\r\n")?)
 }
 
-// The head of a reply with this status, a body of so many bytes, and these further lines.
-fn head_with(alloc: Global, status: &str, len: usize, lines: &str) -> Result<String, Memory>
-    ensures { IfOk result (λ text. string_bytes text ≡ head_with status.now len lines.now) }
+// The head of a reply with this status, a body of this kind and of so many bytes, and these further
+// lines.
+fn head_with(
+    alloc: Global,
+    status: &str,
+    kind: &str,
+    len: usize,
+    lines: &str,
+) -> Result<String, Memory>
+    ensures { IfOk result
+        (λ text. string_bytes text ≡ head_with status.now kind.now len lines.now) }
 {
     Ok(format!(in alloc;
-        "HTTP/1.1 {status}\r\nContent-Type: application/json\r\nContent-Length: {len}\r\n{lines}\r\n"
+        "HTTP/1.1 {status}\r\nContent-Type: {kind}\r\nContent-Length: {len}\r\n{lines}\r\n"
     )?)
+}
+
+/// The head of a page of so many bytes. No other page may frame it.
+#[tactic(auto, unfolding(crate::specs::Texts::page_head))]
+pub fn page_head(alloc: Global, len: usize) -> Result<String, Memory>
+    ensures { IfOk result (λ text. string_bytes text ≡ page_head len) }
+{
+    let lines = "X-Frame-Options: DENY\r\n";
+    head_with(
+        alloc,
+        status_text(Code::Ok),
+        "text/html; charset=utf-8",
+        len,
+        lines,
+    )
 }
 
 /// The head of a reply with a body of so many bytes.
@@ -168,5 +191,11 @@ pub fn head_text(
     ensures { IfOk result (λ text. string_bytes text ≡ head_text code task len) }
 {
     let line = task_line(alloc, task)?;
-    head_with(alloc, status_text(code), len, line.as_str())
+    head_with(
+        alloc,
+        status_text(code),
+        "application/json",
+        len,
+        line.as_str(),
+    )
 }

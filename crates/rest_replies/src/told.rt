@@ -24,4 +24,6 @@ pub enum Told {
     Board(BoardReply),
     /// That the service ends.
     Ending,
+    /// The service's page.
+    Page,
 }

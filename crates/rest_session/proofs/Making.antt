@@ -9,11 +9,12 @@ use Rattle.mover_rounds.proofs.Pumping.{made_both}
 use Rattle.mover_rounds.proofs.Working.{no_copies, risen_none}
 use Rattle.review_board.specs.Asked.{BoardEntry, BoardKnown}
 use Rattle.rest_replies.specs.declared.told.Told.{Told}
-use Rattle.rest_parse.specs.Ends.{asks_end, end_meaning}
+use Rattle.rest_parse.specs.Sites.{site_meaning}
+use Rattle.rest_parse.specs.declared.sites.SiteCall.{SiteCall}
 use Rattle.rest_stream.specs.declared.raw.RawRequest.{RawRequest}
 use Rattle.rest_session.specs.Answered.{HasAnswered, IsAnswered, IsBlamed, IsReplied, fault_told}
 use Rattle.rest_session.specs.Pieces.{asks_head}
-use Rattle.rest_session.specs.Heard.{HasHeard, IsEnding, IsHeard, offers}
+use Rattle.rest_session.specs.Heard.{HasHeard, IsHeard, IsSiteTold, SiteView, offers, site_asked}
 use Rattle.rest_session.specs.Reviewed.{HasCalled, HasMadeBoth, IsBoardSince, IsCalledBy}
 
 -- nothing was made
@@ -73,17 +74,17 @@ made_behind P Q S v u w x y z k j l f p q = record {
 }
 
 -- a request was answered: what was called, and what was written then
-pub answered_by : {E : Type 0} (d : Bool) (v w : Known) (x y : Option BoardKnown) (k l : Copies) (raw : RawRequest) (t : Told) (old new : Option (List ℕ)) (r : Result (Unit {0}) E) → HasHeard d v w x y k l raw t → IsBlamed (fault_told t) v.blamed w.blamed → IsReplied (asks_head raw) t old new r
+pub answered_by : {E : Type 0} (d : SiteView) (v w : Known) (x y : Option BoardKnown) (k l : Copies) (raw : RawRequest) (t : Told) (old new : Option (List ℕ)) (r : Result (Unit {0}) E) → HasHeard d v w x y k l raw t → IsBlamed (fault_told t) v.blamed w.blamed → IsReplied (asks_head raw) t old new r
     → HasAnswered d v w x y k l raw old new r
 answered_by d v w x y k l raw t old new r called blamed replied = both_so (λ n m c. IsHeard (offers d x) v.rules w.seen raw t m c n) (IsAnswered (offers d x) raw old new r v.rules w.seen v.blamed w.blamed) v w x y k l
     (λ n m c p. record { told_is = t; reply = replied.0; blamed = blamed; called = p; reply_is = replied.1; written = replied.2 }) called
 
--- a request that isn't one to shut down was called
-pub heard_called : (d : Bool) (v w : Known) (x y : Option BoardKnown) (k l : Copies) (raw : RawRequest) (t : Told) → (d && asks_end raw) ≡ false → HasCalled v w x y k l raw t → HasHeard d v w x y k l raw t
+-- a request that asks nothing of the service itself was called
+pub heard_called : (d : SiteView) (v w : Known) (x y : Option BoardKnown) (k l : Copies) (raw : RawRequest) (t : Told) → site_asked d raw ≡ None → HasCalled v w x y k l raw t → HasHeard d v w x y k l raw t
 heard_called d v w x y k l raw t other h = both_so (λ n m c. IsCalledBy (is_some x) v.rules w.seen raw t m c n) (λ n m c. IsHeard (offers d x) v.rules w.seen raw t m c n) v w x y k l
     (λ n m c i. rw other i) h
 
--- and one that is was told so
-pub heard_ending : (d : Bool) (v : Known) (x : Option BoardKnown) (k : Copies) (raw : RawRequest) (t : Told) → (d && asks_end raw) ≡ true → IsEnding (end_meaning raw) t → HasHeard d v v x x k k raw t
-heard_ending d v x k raw t asks h = made_alone (λ n m c. IsHeard (offers d x) v.rules v.seen raw t m c n) v v x k k
+-- and one that does was told so
+pub heard_site : (d : SiteView) (v : Known) (x : Option BoardKnown) (k : Copies) (raw : RawRequest) (t : Told) (call : SiteCall) → site_asked d raw ≡ Some call → IsSiteTold call (site_meaning call raw) t → HasHeard d v v x x k k raw t
+heard_site d v x k raw t call asks h = made_alone (λ n m c. IsHeard (offers d x) v.rules v.seen raw t m c n) v v x k k
     (nothing_made (λ m c. IsHeard (offers d x) v.rules v.seen raw t m c []) v k (rw asks (h, (refl, refl), refl)))

@@ -1,6 +1,6 @@
 -- Requests, one behind another.
 use Rattle.std.proofs.Common.{◌≡◌, ℕ, ◌≤◌, Bool, true, false, List, [], ◌∷◌, ◌++◌, take, Ok, Err, refl, ap, sym, ◌∙◌, subst, append_assoc, append-nil, suc, arith, inl, inr}
-use Rattle.std.specs.Prelude.{◌&&◌, Option, Some, None, IfSome, IsSome, OnErr, Result, is_err, is_some}
+use Rattle.std.specs.Prelude.{Option, Some, None, IfSome, IsSome, OnErr, Result, is_err, is_some}
 use Rattle.std.specs.List.{AllByRecursion}
 use Rattle.std.proofs.lemmas.List.{map-append}
 use mathlib.Core.List.{IsPrefix}
@@ -11,10 +11,10 @@ use Rattle.mover_rounds.specs.Asked.{Entry, Known, Rules}
 use Rattle.mover_rounds.specs.Made.{Copies}
 use Rattle.mover_rounds.proofs.Later.{pumped_later}
 use Rattle.rest_parse.specs.Calls.{meaning}
-use Rattle.rest_parse.specs.Ends.{asks_end}
 use Rattle.rest_parse.specs.Reviews.{reviewed_meaning}
 use Rattle.rest_parse.specs.declared.calls.Call.{Call}
 use Rattle.rest_parse.specs.declared.calls.HttpFault.{HttpFault}
+use Rattle.rest_parse.specs.declared.sites.SiteCall.{SiteCall}
 use Rattle.rest_parse.specs.declared.reviews.ReviewCall.{ReviewCall}
 use Rattle.rest_parse.specs.declared.reviews.ReviewCall.TheVariants as review
 use Rattle.rest_stream.specs.Stream.{IsRequest, Requests, StopsBy, closed, is_last, stopped, stream_of}
@@ -31,7 +31,7 @@ use Rattle.review_board.specs.declared.events.BoardEvent.TheVariants as board
 use Rattle.review_board.specs.declared.events.BoardReply.{BoardReply}
 use Rattle.review_board.specs.declared.events.BoardReply.TheVariants as reply
 use Rattle.rest_session.specs.Calls.{IsCalled, IsDone, asked_by, plainly_asked}
-use Rattle.rest_session.specs.Heard.{IsHeard, IsHeardIf, Offers, offers}
+use Rattle.rest_session.specs.Heard.{IsHeard, IsHeardIf, Offers, SiteView, offers, site_asked}
 use Rattle.rest_session.specs.Reviewed.{HasFollowedReply, HasMadeBoth, IsBegun, IsCalledBy, IsMeant, IsNoted, IsReviewed, IsStarted, given_request, starts}
 use Rattle.rest_session.specs.Answered.{AreBlamed, Begins, HasAnswered, HasEnded, HasServed, IsAnswered, IsBlamed, IsCutIn, IsRefused, IsServed, IsStopped, IsWritten, end_of, fault_told}
 use Rattle.rest_session.specs.Pieces.{ArePieces, IsPiece, Piece, in_order, raws_of, replies_of}
@@ -52,11 +52,11 @@ pub record AreSoFar (o : Offers) (old new : Option (List ℕ)) (raws : List RawR
   pub out : new ≡ appended old (replies_of pieces)
 
 -- these requests were answered, with their replies out
-abbrev pub HasSoFar : Bool → Known → Known → Option BoardKnown → Option BoardKnown → Copies → Copies → Option (List ℕ) → Option (List ℕ) → List RawRequest → Type 0
+abbrev pub HasSoFar : SiteView → Known → Known → Option BoardKnown → Option BoardKnown → Copies → Copies → Option (List ℕ) → Option (List ℕ) → List RawRequest → Type 0
 HasSoFar d v w x y k l old new raws = HasMadeBoth (AreSoFar (offers d x) old new raws v.rules w.seen v.blamed w.blamed) v w x y k l
 
 -- so many requests were read, their replies are out, and those of what is left follow
-pub record IsServing (d : Bool) (left old before new : Option (List ℕ)) (given : ℕ) (v w : Known) (x y : Option BoardKnown) (k l : Copies) : Type 0 where
+pub record IsServing (d : SiteView) (left old before new : Option (List ℕ)) (given : ℕ) (v w : Known) (x y : Option BoardKnown) (k l : Copies) : Type 0 where
   pub raws : List RawRequest
   pub leads : Leads left raws given before
   pub did : HasSoFar d v w x y k l old new raws
@@ -86,6 +86,7 @@ called_later r s t p means (told.Pump y) m c h = (h.0, h.1, done_later r s t p (
 called_later r s t p means (told.Stopped y) m c h = (h.0, h.1, done_later r s t p (asked_by h.0) (told.Stopped y) m c h.2)
 called_later r s t p means (told.Board y) m c h = (h.0, h.1, done_later r s t p (asked_by h.0) (told.Board y) m c h.2)
 called_later r s t p means told.Ending m c h = (h.0, h.1, done_later r s t p (asked_by h.0) told.Ending m c h.2)
+called_later r s t p means told.Page m c h = (h.0, h.1, done_later r s t p (asked_by h.0) told.Page m c h.2)
 
 module _ (r : Rules) (s t : List Event) (p : IsPrefix s t) (x : Told) (m : List Entry) (c : List ChunkCopy) where
   begun_later : (a : Call) (b : Bool) → IsBegun r s a b x m c → IsBegun r t a b x m c
@@ -121,12 +122,12 @@ module _ (r : Rules) (s t : List Event) (p : IsPrefix s t) (x : Told) (m : List 
   by_later true raw n h = reviewed_later (reviewed_meaning raw) n h
   by_later false raw n h = (called_later r s t p (meaning raw) x m c h.0, h.1)
 
-  told_later : (a b : Bool) (raw : RawRequest) (n : List BoardEntry) → IsHeardIf a b r s raw x m c n → IsHeardIf a b r t raw x m c n
-  told_later true b raw n h = h
-  told_later false b raw n h = by_later b raw n h
+  told_later : (a : Option SiteCall) (b : Bool) (raw : RawRequest) (n : List BoardEntry) → IsHeardIf a b r s raw x m c n → IsHeardIf a b r t raw x m c n
+  told_later (Some call) b raw n h = h
+  told_later None b raw n h = by_later b raw n h
 
   heard_later : (o : Offers) (raw : RawRequest) (n : List BoardEntry) → IsHeard o r s raw x m c n → IsHeard o r t raw x m c n
-  heard_later o raw n h = told_later (o.shutdown && asks_end raw) o.reviews raw n h
+  heard_later o raw n h = told_later (site_asked o.site raw) o.reviews raw n h
 
 pieces_later : (b : Offers) (r : Rules) (s t : List Event) → IsPrefix s t → (ps : List Piece) → AllByRecursion (IsPiece b r s) ps → AllByRecursion (IsPiece b r t) ps
 pieces_later b r s t p [] h = h
@@ -175,7 +176,7 @@ module _ (b d : Offers) (f : d ≡ b) (r q : Rules) (s t : List Event) (e : q �
 raws_more : (raw : RawRequest) (raws : List RawRequest) (ps : List Piece) (x : Piece) → raws ≡ raws_of ps → x.raw ≡ raw → raws ++ raw ∷ [] ≡ raws_of (ps ++ x ∷ [])
 raws_more raw raws ps x h k = ap (λ y. y ++ raw ∷ []) h ∙ (ap (λ (y : RawRequest). raws_of ps ++ y ∷ []) (sym k) ∙ sym (map-append (λ y. y.raw) ps (x ∷ [])))
 
-module _ (d : Bool) (v u w : Known) (x y z : Option BoardKnown) (k j l : Copies) (old mid new : Option (List ℕ)) (raws : List RawRequest) (raw : RawRequest) (so_far : HasSoFar d v u x y k j old mid raws) where
+module _ (d : SiteView) (v u w : Known) (x y z : Option BoardKnown) (k j l : Copies) (old mid new : Option (List ℕ)) (raws : List RawRequest) (raw : RawRequest) (so_far : HasSoFar d v u x y k j old mid raws) where
   -- what was made so far, and for the request, with the piece of the request
   served_so : {E : Type 0} (r : Result (Unit {0}) E) (S : List BoardEntry → List Entry → List ChunkCopy → Type 0)
       → ((ps : List Piece) (p : Piece) (n : List BoardEntry) (m : List Entry) (c : List ChunkCopy) → ArePieces (offers d x) v.rules w.seen (ps ++ p ∷ []) n m c → AreBlamed v.blamed w.blamed (ps ++ p ∷ []) → raws ++ raw ∷ [] ≡ raws_of (ps ++ p ∷ []) → mid ≡ appended old (replies_of ps)
@@ -183,7 +184,7 @@ module _ (d : Bool) (v u w : Known) (x y z : Option BoardKnown) (k j l : Copies)
       → HasAnswered d u w y z j l raw mid new r → HasMadeBoth S v w x z k l
   unfolding piece_of
   served_so r S f h =
-      let same : offers d y ≡ offers d x = ap (λ (o : Bool). record { reviews = o; shutdown = d }) (board_lasts x y so_far.noted so_far.board) in
+      let same : offers d y ≡ offers d x = ap (λ (o : Bool). record { reviews = o; site = d }) (board_lasts x y so_far.noted so_far.board) in
       made_behind (AreSoFar (offers d x) old mid raws v.rules u.seen v.blamed u.blamed) (IsAnswered (offers d y) raw mid new r u.rules w.seen u.blamed w.blamed) S v u w x y z k j l
       (λ na a ca nb b cb g i.
       let p : Piece = piece_of (offers d x) (offers d y) same v.rules u.rules u.seen w.seen so_far.made.rules h.made.longer raw u.blamed w.blamed mid new r nb b cb i in
@@ -240,7 +241,7 @@ begins raws n m raw whole before after leads same is told false c =
     (leads_end (raws ++ raw ∷ []) m stop.Memory whole after on (always after))
 
 -- the last request closes the link
-pub served_closed : (d : Bool) (v w : Known) (x y : Option BoardKnown) (k l : Copies) (left old new : Option (List ℕ)) (raws : List RawRequest) → HasSoFar d v w x y k l old new raws → IfSome left (λ s. Requests 0 s raws closed) → HasServed d v w x y k l left old new end.Closed
+pub served_closed : (d : SiteView) (v w : Known) (x y : Option BoardKnown) (k l : Copies) (left old new : Option (List ℕ)) (raws : List RawRequest) → HasSoFar d v w x y k l old new raws → IfSome left (λ s. Requests 0 s raws closed) → HasServed d v w x y k l left old new end.Closed
 served_closed d v w x y k l left old new raws h c = both_so (AreSoFar (offers d x) old new raws v.rules w.seen v.blamed w.blamed) (IsServed (offers d x) left old new v.rules w.seen v.blamed w.blamed end.Closed) v w x y k l
     (λ n m o i. record {
       pieces = i.pieces;
@@ -252,7 +253,7 @@ served_closed d v w x y k l left old new raws h c = both_so (AreSoFar (offers d 
     }) h
 
 -- the service shuts down behind the last request
-pub served_shut : (d : Bool) (v w : Known) (x y : Option BoardKnown) (k l : Copies) (left old new : Option (List ℕ)) (raws : List RawRequest) → d ≡ true → HasSoFar d v w x y k l old new raws → IfSome left (λ s. Begins s raws) → HasServed d v w x y k l left old new end.ShutDown
+pub served_shut : (d : SiteView) (v w : Known) (x y : Option BoardKnown) (k l : Copies) (left old new : Option (List ℕ)) (raws : List RawRequest) → d.shutdown ≡ true → HasSoFar d v w x y k l old new raws → IfSome left (λ s. Begins s raws) → HasServed d v w x y k l left old new end.ShutDown
 served_shut d v w x y k l left old new raws offered h c = both_so (AreSoFar (offers d x) old new raws v.rules w.seen v.blamed w.blamed) (IsServed (offers d x) left old new v.rules w.seen v.blamed w.blamed end.ShutDown) v w x y k l
     (λ n m o i. record {
       pieces = i.pieces;
@@ -281,7 +282,7 @@ refused_so left old mid new pieces why e stops out (inl h) =
 refused_so left old mid new pieces why e stops out (inr h) =
     subst (λ x. HasEnded left old new pieces x) (sym h.0) (ended_by left old new pieces why (h.1.0, record { requests = stops; reply_is = h.1.1 }, told_both old mid new (replies_of pieces) h.1.0 out h.1.2))
 
-pub served_refused : (d : Bool) (v w : Known) (x y : Option BoardKnown) (k l : Copies) (left old mid new : Option (List ℕ)) (raws : List RawRequest) (why : Stop) (e : LinkEnd) → HasSoFar d v w x y k l old mid raws → IfSome left (λ s. Requests 0 s raws (stopped why)) → IsRefused mid new why e
+pub served_refused : (d : SiteView) (v w : Known) (x y : Option BoardKnown) (k l : Copies) (left old mid new : Option (List ℕ)) (raws : List RawRequest) (why : Stop) (e : LinkEnd) → HasSoFar d v w x y k l old mid raws → IfSome left (λ s. Requests 0 s raws (stopped why)) → IsRefused mid new why e
     → HasServed d v w x y k l left old new e
 served_refused d v w x y k l left old mid new raws why e h stops is = both_so (AreSoFar (offers d x) old mid raws v.rules w.seen v.blamed w.blamed) (IsServed (offers d x) left old new v.rules w.seen v.blamed w.blamed e) v w x y k l
     (λ n m o i. record {
@@ -294,7 +295,7 @@ served_refused d v w x y k l left old mid new raws why e h stops is = both_so (A
     }) h
 
 -- nothing was read yet
-pub none_served : (d : Bool) (v : Known) (x : Option BoardKnown) (k : Copies) (old : Option (List ℕ)) → HasSoFar d v v x x k k old old []
+pub none_served : (d : SiteView) (v : Known) (x : Option BoardKnown) (k : Copies) (old : Option (List ℕ)) → HasSoFar d v v x x k k old old []
 none_served d v x k old = made_alone (AreSoFar (offers d x) old old [] v.rules v.seen v.blamed v.blamed) v v x k k
     (nothing_made (AreSoFar (offers d x) old old [] v.rules v.seen v.blamed v.blamed []) v k
     (record { pieces = []; are = record { are = tt; noted_is = refl; made_is = refl; copies_are = refl }; blamed = refl; raws_are = refl; out = nothing_more old }))
@@ -304,11 +305,11 @@ leads_first None = tt
 leads_first (Some s) = λ more end h. h
 
 -- there was no memory to begin
-pub unserved : (d : Bool) (v : Known) (x : Option BoardKnown) (k : Copies) (left old : Option (List ℕ)) → HasServed d v v x x k k left old old end.Memory
+pub unserved : (d : SiteView) (v : Known) (x : Option BoardKnown) (k : Copies) (left old : Option (List ℕ)) → HasServed d v v x x k k left old old end.Memory
 unserved d v x k left old = served_refused d v v x x k k left old old old [] stop.Memory end.Memory (none_served d v x k old) (always left) (refused_silent old stop.Memory end.Memory refl refl)
 
 -- from turn to turn: one request more is answered, or the write of its reply fails
-module _ (d : Bool) (v u w : Known) (x y z : Option BoardKnown) (k j l : Copies) (left old before mid after new : Option (List ℕ)) (n : ℕ) (raw : RawRequest) (so_far : IsServing d left old before mid n v u x y k j) (is : IfSome before (λ s. IfSome after (IsRequest (is_last n) s raw))) (told_on : IsSome before → IsSome after) where
+module _ (d : SiteView) (v u w : Known) (x y z : Option BoardKnown) (k j l : Copies) (left old before mid after new : Option (List ℕ)) (n : ℕ) (raw : RawRequest) (so_far : IsServing d left old before mid n v u x y k j) (is : IfSome before (λ s. IfSome after (IsRequest (is_last n) s raw))) (told_on : IsSome before → IsSome after) where
   answered : {E : Type 0} (r : Result (Unit {0}) E) → false ≡ is_err r → HasAnswered d u w y z j l raw mid new r → HasSoFar d v w x z k l old new (so_far.raws ++ raw ∷ [])
   answered (Ok done) e h = served_more d v u w x y z k j l old mid new so_far.raws raw so_far.did done h
   answered (Err f) e h = absurd cc
@@ -319,7 +320,7 @@ module _ (d : Bool) (v u w : Known) (x y z : Option BoardKnown) (k j l : Copies)
   pub serving_closed : {E : Type 0} (r : Result (Unit {0}) E) → false ≡ is_err r → HasAnswered d u w y z j l raw mid new r → raw.closes ≡ true → HasServed d v w x z k l left old new end.Closed
   serving_closed r e h shut = served_closed d v w x z k l left old new (so_far.raws ++ raw ∷ []) (answered r e h) (leads_closed so_far.raws n raw left before after so_far.leads is told_on shut)
 
-  pub serving_shut : {E : Type 0} (r : Result (Unit {0}) E) → false ≡ is_err r → HasAnswered d u w y z j l raw mid new r → raw.closes ≡ false → d ≡ true → HasServed d v w x z k l left old new end.ShutDown
+  pub serving_shut : {E : Type 0} (r : Result (Unit {0}) E) → false ≡ is_err r → HasAnswered d u w y z j l raw mid new r → raw.closes ≡ false → d.shutdown ≡ true → HasServed d v w x z k l left old new end.ShutDown
   serving_shut r e h goes offered = served_shut d v w x z k l left old new (so_far.raws ++ raw ∷ []) offered (answered r e h) (begins so_far.raws n (suc n) raw left before after so_far.leads refl is told_on false goes)
 
   pub serving_cut : {E : Type 0} (r : Result (Unit {0}) E) → true ≡ is_err r → HasAnswered d u w y z j l raw mid new r → HasServed d v w x z k l left old new end.WriteFault
@@ -332,5 +333,5 @@ risen_cut first before now (Ok x) e p h = absurd cc
 risen_cut first before now (Err f) e p h = omega (arith, p, h)
 
 -- there is none
-pub serving_refused : (d : Bool) (v w : Known) (x y : Option BoardKnown) (k l : Copies) (left old before mid new : Option (List ℕ)) (n : ℕ) (why : Stop) (e : LinkEnd) → IsServing d left old before mid n v w x y k l → IfSome before (λ s. StopsBy s why) → IsRefused mid new why e → HasServed d v w x y k l left old new e
+pub serving_refused : (d : SiteView) (v w : Known) (x y : Option BoardKnown) (k l : Copies) (left old before mid new : Option (List ℕ)) (n : ℕ) (why : Stop) (e : LinkEnd) → IsServing d left old before mid n v w x y k l → IfSome before (λ s. StopsBy s why) → IsRefused mid new why e → HasServed d v w x y k l left old new e
 serving_refused d v w x y k l left old before mid new n why e so_far stops is = served_refused d v w x y k l left old mid new so_far.raws why e so_far.did (leads_end so_far.raws n why left before so_far.leads stops) is

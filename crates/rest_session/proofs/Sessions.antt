@@ -24,7 +24,7 @@ use Rattle.rest_session.specs.Answered.{HasServed, IsBlamed, IsServed}
 use Rattle.rest_session.specs.Sessions.{IsSession, drain_fault}
 use Rattle.rest_session.specs.declared.session.LinkEnd.{LinkEnd}
 use Rattle.rest_session.specs.Heals.{is_heal}
-use Rattle.rest_session.specs.Heard.{offers}
+use Rattle.rest_session.specs.Heard.{offers, paged}
 use Rattle.rest_session.proofs.Spared.{AreFree, both_free, drained_free, heal_spared, none_has, served_open}
 
 -- no round was made
@@ -68,13 +68,13 @@ drained_by v w drain.Drained h = h
 drained_by v w (drain.AdminFault n) h = (h.0, h.1)
 drained_by v w drain.Memory h = h
 
-module _ {A : Type 0} (b m : BookView A) (x y : Option BoardKnown) (k j : Copies) (left old new : Option (List ℕ)) (e : LinkEnd) (opened : b.journal ≡ []) (served : HasServed false (known_by_owner b) (known_by_owner m) x y k j left old new e) where
+module _ {A : Type 0} (b m : BookView A) (x y : Option BoardKnown) (k j : Copies) (left old new : Option (List ℕ)) (e : LinkEnd) (opened : b.journal ≡ []) (served : HasServed (paged false) (known_by_owner b) (known_by_owner m) x y k j left old new e) where
   -- all entries are those of the link
   all_served : served.made.made ≡ entries_from [] m.journal
   all_served = sym (served.made.own ∙ ap (λ z. entries_from [] z ++ served.made.made) opened)
 
   pub link_open : list_any is_close m.journal ≡ false
-  link_open = served_open (offers false x) left old new (core_rules b.file) m.journal b.failures m.failures e served.noted served.made.made served.made.copies served.made.is all_served
+  link_open = served_open (offers (paged false) x) left old new (core_rules b.file) m.journal b.failures m.failures e served.noted served.made.made served.made.copies served.made.is all_served
 
   module _ (n c : BookView A) (l : Copies) (end : DrainEnd) (same : n.file ≡ b.file) (closed : n.journal ≡ m.journal ++ event.Close ∷ []) (blameless : n.failures ≡ m.failures) (cause : IsDrainCause (known_by_owner n) (known_by_owner c) end) (drained : HasDrainedAlone (known_by_owner n) (known_by_owner c) j l end) where
     abbrev rest : List Event
@@ -121,7 +121,7 @@ module _ {A : Type 0} (b m : BookView A) (x y : Option BoardKnown) (k j : Copies
       faults = m.failures;
       noted = served.noted;
       board = served.board;
-      answered = subst (λ o. IsServed (offers false x) left old new (core_rules b.file) m.journal b.failures m.failures e served.noted o served.made.copies) all_served served.made.is;
+      answered = subst (λ o. IsServed (offers (paged false) x) left old new (core_rules b.file) m.journal b.failures m.failures e served.noted o served.made.copies) all_served served.made.is;
       drain_blamed = subst (λ o. IsBlamed (drain_fault end) o c.failures) blameless (drained_by (known_by_owner n) (known_by_owner c) end cause);
       rounds = subst (λ o. IsDrained (core_rules b.file) c.journal end o drained.copies) drain_made (subst (λ f. IsDrained (core_rules f) c.journal end drained.made drained.copies) same drained.is.0);
       unhealed = λ reviewed. unhealed (served.made.is.given reviewed).no_fix;

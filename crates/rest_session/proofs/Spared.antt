@@ -1,6 +1,6 @@
 -- Which events the entries of rounds, and of a link, never have.
 use Rattle.std.proofs.Common.{◌≡◌, ℕ, Bool, true, false, List, [], ◌∷◌, ◌++◌, ◌⊎◌, refl, ap, sym, ◌∙◌, subst, inl, inr}
-use Rattle.std.specs.Prelude.{◌&&◌, Option, Result, Ok, Err}
+use Rattle.std.specs.Prelude.{Option, Some, None, Result, Ok, Err}
 use Rattle.std.specs.List.{AllByRecursion, list_any}
 use Rattle.cluster_gate.specs.declared.copier.ChunkCopy.{ChunkCopy}
 use Rattle.core_terms.specs.Ends.{Ends, GivesBack}
@@ -21,10 +21,10 @@ use Rattle.mover_rounds.specs.Rounds.{IsEnd, IsLookedRound, IsPlanRound, IsRound
 use Rattle.mover_rounds.specs.declared.drains.DrainEnd.{DrainEnd}
 use Rattle.mover_rounds.specs.declared.drains.DrainEnd.TheVariants as drain
 use Rattle.rest_parse.specs.Calls.{meaning}
-use Rattle.rest_parse.specs.Ends.{asks_end}
 use Rattle.rest_parse.specs.declared.calls.Call.{Call}
 use Rattle.rest_parse.specs.declared.calls.Call.TheVariants as call
 use Rattle.rest_parse.specs.declared.calls.HttpFault.{HttpFault}
+use Rattle.rest_parse.specs.declared.sites.SiteCall.{SiteCall}
 use Rattle.rest_parse.specs.Reviews.{reviewed_meaning}
 use Rattle.rest_parse.specs.declared.reviews.ReviewCall.{ReviewCall}
 use Rattle.rest_parse.specs.declared.reviews.ReviewCall.TheVariants as review
@@ -38,7 +38,7 @@ use Rattle.review_board.specs.declared.events.BoardEvent.TheVariants as board
 use Rattle.rest_session.specs.Answered.{IsServed}
 use Rattle.rest_session.specs.Pieces.{IsPiece, Piece, in_order}
 use Rattle.rest_session.specs.Heals.{is_heal}
-use Rattle.rest_session.specs.Heard.{IsHeardIf, Offers}
+use Rattle.rest_session.specs.Heard.{IsHeardIf, Offers, SiteView, site_asked}
 use Rattle.rest_session.specs.Calls.{IsCalled, IsCutShort, IsDecided, IsDetected, IsDone, IsLooked, asked_by, plainly_asked}
 use Rattle.rest_session.specs.Reviewed.{HasFollowedReply, IsBegun, IsMeant, IsNoted, IsReviewed, IsStarted, given_request, starts}
 use Rattle.rest_session.specs.declared.calls.Asked.{Asked}
@@ -199,6 +199,7 @@ module _ (bad : Event → Bool) (spared : IsSpared bad) (r : Rules) (s : List Ev
   called_free means (told.Stopped y) m c other behind h = done_free (asked_by h.0) (told.Stopped y) m c (other h.0) (λ now alert heal. behind h.0 now alert heal h.1) h.2
   called_free means (told.Board y) m c other behind h = done_free (asked_by h.0) (told.Board y) m c (other h.0) (λ now alert heal. behind h.0 now alert heal h.1) h.2
   called_free means told.Ending m c other behind h = done_free (asked_by h.0) told.Ending m c (other h.0) (λ now alert heal. behind h.0 now alert heal h.1) h.2
+  called_free means told.Page m c other behind h = done_free (asked_by h.0) told.Page m c (other h.0) (λ now alert heal. behind h.0 now alert heal h.1) h.2
 
 -- what starts something asks nothing of the detector, nor does what is plainly asked
 started_looks : (c : Call) (now alert heal : ℕ) → starts c ≡ true → asked_by c ≡ asked.Detects now alert heal → ⊥
@@ -276,13 +277,13 @@ module _ (r : Rules) (s : List Event) where
   detected_open now alert heal x m (inr (inl h)) = subst (AreFree is_close) (sym h) tt
   detected_open now alert heal x m (inr (inr h)) = subst (AreFree is_close) (sym h.1) (ap is_close h.2, tt)
 
-  by_open : (a b : Bool) (p : Piece) → IsHeardIf a b r s p.raw p.told_is p.made p.copies p.noted → AreFree is_close p.made
-  by_open true b p h = subst (AreFree is_close) (sym h.1.0) tt
-  by_open false false p h = called_free is_close close_spared r s (meaning p.raw) p.told_is p.made p.copies asked_open (λ c now alert heal e f. detected_open now alert heal p.told_is p.made) h.0
-  by_open false true p h = reviewed_free is_close close_spared r s p.told_is p.made p.copies asked_open (reviewed_meaning p.raw) p.noted h
+  by_open : (a : Option SiteCall) (b : Bool) (p : Piece) → IsHeardIf a b r s p.raw p.told_is p.made p.copies p.noted → AreFree is_close p.made
+  by_open (Some call) b p h = subst (AreFree is_close) (sym h.1.0) tt
+  by_open None false p h = called_free is_close close_spared r s (meaning p.raw) p.told_is p.made p.copies asked_open (λ c now alert heal e f. detected_open now alert heal p.told_is p.made) h.0
+  by_open None true p h = reviewed_free is_close close_spared r s p.told_is p.made p.copies asked_open (reviewed_meaning p.raw) p.noted h
 
   piece_open : (o : Offers) (p : Piece) → IsPiece o r s p → AreFree is_close p.made
-  piece_open o p h = by_open (o.shutdown && asks_end p.raw) o.reviews p h.0
+  piece_open o p h = by_open (site_asked o.site p.raw) o.reviews p h.0
 
   pub pieces_open : (b : Offers) (ps : List Piece) → AllByRecursion (IsPiece b r s) ps → AreFree is_close (in_order (λ p. p.made) ps)
   pieces_open b [] h = tt
@@ -293,22 +294,22 @@ module _ (r : Rules) (s : List Event) where
   is_detect (call.Detect a b c) now alert heal e = cc
   is_detect _ now alert heal e = absurd cc
 
-  by_no_fix : (a : Bool) (p : Piece) → IsHeardIf a false r s p.raw p.told_is p.made p.copies p.noted → ((now alert heal : ℕ) → meaning p.raw ≡ Ok (call.Detect now alert heal) → ⊥) → AreFree is_heal p.made
-  by_no_fix true p h other = subst (AreFree is_heal) (sym h.1.0) tt
-  by_no_fix false p h other = called_free is_heal heal_spared r s (meaning p.raw) p.told_is p.made p.copies asked_no_fix
+  by_no_fix : (a : Option SiteCall) (p : Piece) → IsHeardIf a false r s p.raw p.told_is p.made p.copies p.noted → ((now alert heal : ℕ) → meaning p.raw ≡ Ok (call.Detect now alert heal) → ⊥) → AreFree is_heal p.made
+  by_no_fix (Some call) p h other = subst (AreFree is_heal) (sym h.1.0) tt
+  by_no_fix None p h other = called_free is_heal heal_spared r s (meaning p.raw) p.told_is p.made p.copies asked_no_fix
       (λ c now alert heal e f k. absurd (other now alert heal (e ∙ ap (λ (x : Call). Ok x) (is_detect c now alert heal f)))) h.0
 
-  pub piece_no_fix : (d : Bool) (p : Piece) → IsPiece (record { reviews = false; shutdown = d }) r s p → ((now alert heal : ℕ) → meaning p.raw ≡ Ok (call.Detect now alert heal) → ⊥) → AreFree is_heal p.made
-  piece_no_fix d p h other = by_no_fix (d && asks_end p.raw) p h.0 other
+  pub piece_no_fix : (d : SiteView) (p : Piece) → IsPiece (record { reviews = false; site = d }) r s p → ((now alert heal : ℕ) → meaning p.raw ≡ Ok (call.Detect now alert heal) → ⊥) → AreFree is_heal p.made
+  piece_no_fix d p h other = by_no_fix (site_asked d p.raw) p h.0 other
 
   -- nor has a piece of any request with a board
-  board_no_fix : (a : Bool) (p : Piece) → IsHeardIf a true r s p.raw p.told_is p.made p.copies p.noted → AreFree is_heal p.made
-  board_no_fix true p h = subst (AreFree is_heal) (sym h.1.0) tt
-  board_no_fix false p h = reviewed_free is_heal heal_spared r s p.told_is p.made p.copies asked_no_fix (reviewed_meaning p.raw) p.noted h
+  board_no_fix : (a : Option SiteCall) (p : Piece) → IsHeardIf a true r s p.raw p.told_is p.made p.copies p.noted → AreFree is_heal p.made
+  board_no_fix (Some call) p h = subst (AreFree is_heal) (sym h.1.0) tt
+  board_no_fix None p h = reviewed_free is_heal heal_spared r s p.told_is p.made p.copies asked_no_fix (reviewed_meaning p.raw) p.noted h
 
-  pub reviewed_no_fix : (d : Bool) (ps : List Piece) → AllByRecursion (IsPiece (record { reviews = true; shutdown = d }) r s) ps → AreFree is_heal (in_order (λ p. p.made) ps)
+  pub reviewed_no_fix : (d : SiteView) (ps : List Piece) → AllByRecursion (IsPiece (record { reviews = true; site = d }) r s) ps → AreFree is_heal (in_order (λ p. p.made) ps)
   reviewed_no_fix d [] h = tt
-  reviewed_no_fix d (p ∷ ps) h = both_free is_heal p.made (in_order (λ x. x.made) ps) (board_no_fix (d && asks_end p.raw) p h.0.0) (reviewed_no_fix d ps h.1)
+  reviewed_no_fix d (p ∷ ps) h = both_free is_heal p.made (in_order (λ x. x.made) ps) (board_no_fix (site_asked d p.raw) p h.0.0) (reviewed_no_fix d ps h.1)
 
 -- nor has the journal whose entries are these
 pub none_has : (bad : Event → Bool) (front events : List Event) → AreFree bad (entries_from front events) → list_any bad events ≡ false

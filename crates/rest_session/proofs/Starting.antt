@@ -1,6 +1,6 @@
 -- What is started was given out.
 use Rattle.std.proofs.Common.{◌≡◌, ℕ, Bool, true, false, List, [], ◌∷◌, ◌++◌, cond, Ok, Err, refl, ap, sym, ◌∙◌, subst, append_assoc, append-nil, inl, inr}
-use Rattle.std.specs.Prelude.{◌⊎◌, ◌&&◌, Result}
+use Rattle.std.specs.Prelude.{◌⊎◌, Option, Some, None, Result}
 use Rattle.std.specs.List.{AllByRecursion}
 use Rattle.cluster_gate.specs.declared.copier.ChunkCopy.{ChunkCopy}
 use Rattle.core_terms.specs.Ends.{Ends, GivesBack}
@@ -11,9 +11,9 @@ use Rattle.core_terms.specs.declared.replies.Reply.{Reply}
 use Rattle.core_terms.specs.declared.replies.Reply.TheVariants as core
 use Rattle.mover_rounds.specs.Asked.{Entry, Rules}
 use Rattle.rest_parse.specs.Calls.{meaning}
-use Rattle.rest_parse.specs.Ends.{asks_end}
 use Rattle.rest_parse.specs.Reviews.{reviewed_meaning}
 use Rattle.rest_parse.specs.declared.calls.Call.{Call}
+use Rattle.rest_parse.specs.declared.sites.SiteCall.{SiteCall}
 use Rattle.rest_parse.specs.declared.calls.Call.TheVariants as call
 use Rattle.rest_parse.specs.declared.calls.HttpFault.{HttpFault}
 use Rattle.rest_parse.specs.declared.reviews.ReviewCall.{ReviewCall}
@@ -27,7 +27,7 @@ use Rattle.review_board.specs.declared.events.BoardEvent.{BoardEvent}
 use Rattle.review_board.specs.declared.events.BoardEvent.TheVariants as board
 use Rattle.review_board.specs.declared.events.BoardReply.{BoardReply}
 use Rattle.review_board.specs.declared.events.BoardReply.TheVariants as reply
-use Rattle.rest_session.specs.Heard.{IsHeardIf, Offers}
+use Rattle.rest_session.specs.Heard.{IsHeardIf, Offers, SiteView, site_asked}
 use Rattle.rest_session.specs.Pieces.{ArePieces, IsPiece, IsReply, Piece, asks_head, in_order, memory_reply, sent}
 use Rattle.rest_session.specs.Calls.{IsDone, plainly_asked}
 use Rattle.rest_session.specs.Reviewed.{HasFollowedReply, IsMeant, IsNoted, IsReviewed, IsStarted, given_request}
@@ -154,15 +154,15 @@ module _ (rules : Rules) (seen : List Event) where
   meant_out raw (Ok (review.Plain c)) e t made copies noted h = plain_out c t made copies noted (plain_is_quiet raw c e) h.0 h.1
   meant_out raw (Err f) e t made copies noted h = nothing_out t made noted h.1.0 h.2
 
-  by_out : (a : Bool) (p : Piece) → IsHeardIf a true rules seen p.raw p.told_is p.made p.copies p.noted → IsOutcome p.made (given_events p.noted) p.told_is
-  by_out true p h = nothing_out p.told_is p.made p.noted h.1.0 h.2
-  by_out false p h = at h where
+  by_out : (a : Option SiteCall) (p : Piece) → IsHeardIf a true rules seen p.raw p.told_is p.made p.copies p.noted → IsOutcome p.made (given_events p.noted) p.told_is
+  by_out (Some call) p h = nothing_out p.told_is p.made p.noted h.1.0 h.2
+  by_out None p h = at h where
     at : IsReviewed rules seen (reviewed_meaning p.raw) p.told_is p.made p.copies p.noted → IsOutcome p.made (given_events p.noted) p.told_is
     at (inl m) = meant_out p.raw (reviewed_meaning p.raw) refl p.told_is p.made p.copies p.noted m
     at (inr u) = nothing_out p.told_is p.made p.noted u.0.1.0 u.1
 
-  piece_out : (d : Bool) (p : Piece) → IsPiece (record { reviews = true; shutdown = d }) rules seen p → IsOutcome p.made (given_events p.noted) p.told_is
-  piece_out d p h = by_out (d && asks_end p.raw) p h.0
+  piece_out : (d : SiteView) (p : Piece) → IsPiece (record { reviews = true; site = d }) rules seen p → IsOutcome p.made (given_events p.noted) p.told_is
+  piece_out d p h = by_out (site_asked d p.raw) p h.0
 
   wants : (alone : Bool) (t : Told) (reply : List ℕ) → IsReply alone t reply → (reply ≡ sent alone memory_reply → ⊥) → reply_of t ≡ memory_reply → ⊥
   wants alone t reply (inl is) n w = n (is ∙ ap (λ (y : List ℕ). sent alone y) w)
@@ -174,13 +174,13 @@ module _ (rules : Rules) (seen : List Event) where
     | inr all ↦ subst (λ (y : List Event). IsAmong y (given_events p.noted)) (sym all) (among_self (given_events p.noted))
   ]
 
-  all_among : (d : Bool) (ps : List Piece) → AllByRecursion (IsPiece (record { reviews = true; shutdown = d }) rules seen) ps → IsAmong (started (in_order (λ p. p.made) ps)) (given_events (in_order (λ p. p.noted) ps))
+  all_among : (d : SiteView) (ps : List Piece) → AllByRecursion (IsPiece (record { reviews = true; site = d }) rules seen) ps → IsAmong (started (in_order (λ p. p.made) ps)) (given_events (in_order (λ p. p.noted) ps))
   all_among d [] h = tt
   all_among d (p ∷ ps) h =
       rw (started_append p.made (in_order (λ x. x.made) ps), given_append p.noted (in_order (λ x. x.noted) ps))
       (among_both (started p.made) (given_events p.noted) (started (in_order (λ x. x.made) ps)) (given_events (in_order (λ x. x.noted) ps)) (among_one p (piece_out d p h.0)) (all_among d ps h.1))
 
-  all_exact : (d : Bool) (ps : List Piece) → AllByRecursion (IsPiece (record { reviews = true; shutdown = d }) rules seen) ps → NoneWants ps → started (in_order (λ p. p.made) ps) ≡ given_events (in_order (λ p. p.noted) ps)
+  all_exact : (d : SiteView) (ps : List Piece) → AllByRecursion (IsPiece (record { reviews = true; site = d }) rules seen) ps → NoneWants ps → started (in_order (λ p. p.made) ps) ≡ given_events (in_order (λ p. p.noted) ps)
   all_exact d [] h n = refl
   all_exact d (p ∷ ps) h n =
       let one : started p.made ≡ given_events p.noted = (piece_out d p h.0).exact (wants (asks_head p.raw) p.told_is p.reply h.0.1 n.0) in
@@ -190,7 +190,7 @@ module _ (rules : Rules) (seen : List Event) where
       ∙ sym (given_append p.noted (in_order (λ x. x.noted) ps))))
 
 -- so do the pieces of a link
-given_if : (b d : Bool) (rules : Rules) (seen : List Event) (pieces : List Piece) (noted : List BoardEntry) (made : List Entry) (copies : List ChunkCopy) → ArePieces (record { reviews = b; shutdown = d }) rules seen pieces noted made copies → b ≡ true → StartsAsGiven pieces noted made
+given_if : (b : Bool) (d : SiteView) (rules : Rules) (seen : List Event) (pieces : List Piece) (noted : List BoardEntry) (made : List Entry) (copies : List ChunkCopy) → ArePieces (record { reviews = b; site = d }) rules seen pieces noted made copies → b ≡ true → StartsAsGiven pieces noted made
 given_if false d rules seen pieces noted made copies h e = absurd cc
 given_if true d rules seen pieces noted made copies h e = record {
   among = rw (h.made_is, h.noted_is) (all_among rules seen d pieces h.are);
@@ -199,4 +199,4 @@ given_if true d rules seen pieces noted made copies h e = record {
 }
 
 pub given_only : (o : Offers) (rules : Rules) (seen : List Event) (pieces : List Piece) (noted : List BoardEntry) (made : List Entry) (copies : List ChunkCopy) → ArePieces o rules seen pieces noted made copies → o.reviews ≡ true → StartsAsGiven pieces noted made
-given_only o rules seen pieces noted made copies h e = given_if o.reviews o.shutdown rules seen pieces noted made copies h e
+given_only o rules seen pieces noted made copies h e = given_if o.reviews o.site rules seen pieces noted made copies h e

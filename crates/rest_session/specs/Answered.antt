@@ -15,7 +15,7 @@ use Rattle.rest_replies.specs.declared.told.Told.{Told}
 use Rattle.rest_replies.specs.declared.told.Told.TheVariants as told
 use Rattle.review_board.specs.Asked.{BoardEntry, BoardKnown}
 use Rattle.rest_session.specs.Pieces.{ArePieces, IsReply, Piece, asks_head, raws_of, replies_of}
-use Rattle.rest_session.specs.Heard.{IsHeard, Offers, offers}
+use Rattle.rest_session.specs.Heard.{IsHeard, Offers, SiteView, offers}
 use Rattle.rest_session.specs.Reviewed.{HasMadeBoth}
 use Rattle.rest_session.specs.Starts.{StartsAsGiven}
 use Rattle.rest_session.specs.declared.session.LinkEnd.{LinkEnd}
@@ -89,11 +89,11 @@ pub record IsServed (o : Offers) (left old new : Option (List ℕ)) (rules : Rul
   pub blamed : AreBlamed before now pieces
   pub ended : HasEnded left old new pieces e
   pub given : o.reviews ≡ true → StartsAsGiven pieces noted made
-  pub shut : e ≡ end.ShutDown → o.shutdown ≡ true
+  pub shut : e ≡ end.ShutDown → o.site.shutdown ≡ true
 
 -- the requests of a link were answered, each by its own entries, up to its end
-abbrev pub HasServed : Bool → Known → Known → Option BoardKnown → Option BoardKnown → Copies → Copies → Option (List ℕ) → Option (List ℕ) → Option (List ℕ) → LinkEnd → Type 0
-HasServed d v w x y k l left old new e = HasMadeBoth (IsServed (offers d x) left old new v.rules w.seen v.blamed w.blamed e) v w x y k l
+abbrev pub HasServed : SiteView → Known → Known → Option BoardKnown → Option BoardKnown → Copies → Copies → Option (List ℕ) → Option (List ℕ) → Option (List ℕ) → LinkEnd → Type 0
+HasServed site v w x y k l left old new e = HasMadeBoth (IsServed (offers site x) left old new v.rules w.seen v.blamed w.blamed e) v w x y k l
 
 -- a reply was written, whole or, before an error, a prefix of it
 abbrev pub IsWritten : {E : Type 0} → Option (List ℕ) → Option (List ℕ) → Result (Unit {0}) E → List ℕ → Type 0
@@ -109,8 +109,8 @@ pub record IsAnswered {E : Type 0} (o : Offers) (raw : RawRequest) (old new : Op
   pub reply_is : IsReply (asks_head raw) told_is reply
   pub written : IsWritten old new result reply
 
-abbrev pub HasAnswered : {E : Type 0} → Bool → Known → Known → Option BoardKnown → Option BoardKnown → Copies → Copies → RawRequest → Option (List ℕ) → Option (List ℕ) → Result (Unit {0}) E → Type 0
-HasAnswered d v w x y k l raw old new result = HasMadeBoth (IsAnswered (offers d x) raw old new result v.rules w.seen v.blamed w.blamed) v w x y k l
+abbrev pub HasAnswered : {E : Type 0} → SiteView → Known → Known → Option BoardKnown → Option BoardKnown → Copies → Copies → RawRequest → Option (List ℕ) → Option (List ℕ) → Result (Unit {0}) E → Type 0
+HasAnswered site v w x y k l raw old new result = HasMadeBoth (IsAnswered (offers site x) raw old new result v.rules w.seen v.blamed w.blamed) v w x y k l
 
 -- a reply to what is told was written
 abbrev pub IsReplied : {E : Type 0} → Bool → Told → Option (List ℕ) → Option (List ℕ) → Result (Unit {0}) E → Type 0

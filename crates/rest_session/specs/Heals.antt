@@ -7,6 +7,7 @@ use Rattle.mover_rounds.specs.Asked.{Entry, Rules}
 use Rattle.mover_rounds.specs.Rounds.{IsRound, Standing}
 use Rattle.rest_parse.specs.Calls.{meaning}
 use Rattle.rest_parse.specs.declared.calls.Call.TheVariants as call
+use Rattle.rest_session.specs.Heard.{SiteView}
 use Rattle.rest_session.specs.Pieces.{IsPiece, Piece}
 
 -- a fix
@@ -20,7 +21,7 @@ HasNoFix made = AllByRecursion (λ x. is_heal x.event ≡ false) made
 
 -- the entries of a request that asks nothing of the detector have none
 abbrev pub OnlyDetectsHeal : Type 0
-OnlyDetectsHeal = (shutdown : Bool) (rules : Rules) (seen : List Event) (p : Piece) → IsPiece (record { reviews = false; shutdown = shutdown }) rules seen p → ((now alert heal : ℕ) → meaning p.raw ≡ Ok (call.Detect now alert heal) → ⊥) → HasNoFix p.made
+OnlyDetectsHeal = (site : SiteView) (rules : Rules) (seen : List Event) (p : Piece) → IsPiece (record { reviews = false; site = site }) rules seen p → ((now alert heal : ℕ) → meaning p.raw ≡ Ok (call.Detect now alert heal) → ⊥) → HasNoFix p.made
 
 -- nor have those of a round
 abbrev pub RoundsHealNothing : Type 0

@@ -13,7 +13,7 @@ use Rattle.mover_rounds.specs.declared.drains.DrainEnd.TheVariants as drain
 use Rattle.review_board.specs.Asked.{BoardEntry, BoardKnown}
 use Rattle.rest_session.specs.Answered.{IsBlamed, IsServed}
 use Rattle.rest_session.specs.Heals.{is_heal}
-use Rattle.rest_session.specs.Heard.{offers}
+use Rattle.rest_session.specs.Heard.{offers, paged}
 use Rattle.rest_session.specs.Reviewed.{IsBoardSince}
 use Rattle.rest_session.specs.declared.whole.SessionEnd.{SessionEnd}
 
@@ -35,7 +35,7 @@ pub record IsSession {A : Type 0} (b c : BookView A) (x y : Option BoardKnown) (
   pub faults : ℕ
   pub noted : List BoardEntry
   pub board : IsBoardSince x y noted
-  pub answered : IsServed (offers false x) left old new (core_rules b.file) served b.failures faults end.link noted (entries_from [] served) served_copies
+  pub answered : IsServed (offers (paged false) x) left old new (core_rules b.file) served b.failures faults end.link noted (entries_from [] served) served_copies
   pub drain_blamed : IsBlamed (drain_fault end.drain) faults c.failures
   pub rounds : IsDrained (core_rules b.file) c.journal end.drain (entries_from (served ++ event.Close ∷ []) drained) drained_copies
   pub unhealed : is_some x ≡ true → list_any is_heal c.journal ≡ false

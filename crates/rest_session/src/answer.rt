@@ -1,5 +1,5 @@
 // One request: what it is told, and its reply.
-ghost use Rattle.std.specs.Prelude.{◌≡◌, ◌&&◌, false, None, IfErr, IfOk};
+ghost use Rattle.std.specs.Prelude.{◌≡◌, false, None, IfErr, IfOk};
 ghost use Rattle.cc_base.specs.Outside.{HasCause};
 ghost use Rattle.core_terms.specs.History.{is_outward};
 ghost use Rattle.mover_rounds.specs.Made.{Copies, HasMade, copier_of};
@@ -7,20 +7,20 @@ ghost use Rattle.rest_parse.specs.Calls.{meaning};
 ghost use Rattle.rest_session.specs.Pieces.{asks_head, sent};
 ghost use Rattle.rest_session.specs.Answered.{HasAnswered, IsBlamed, IsReplied, fault_told};
 ghost use Rattle.rest_session.specs.Calls.{HasDone, HasHealed, IsAskedOnce, IsCalled, IsDecidedBy, IsInward, IsToldAtOnce};
-ghost use Rattle.rest_session.specs.Heard.{HasHeard, IsEnding};
+ghost use Rattle.rest_session.specs.Heard.{HasHeard, IsSiteTold, site_asked};
 ghost use Rattle.rest_session.specs.Reviewed.{HasCalled};
-ghost use Rattle.rest_parse.specs.Ends.{asks_end, end_meaning};
+ghost use Rattle.rest_parse.specs.Sites.{site_meaning};
 
 use crate::calls::{Asked, asked_by};
 use crate::reviewed::told_reviewed;
-use crate::shutdown::Shutdown;
+use crate::site::Site;
 use anomaly_detector::{Decision, decide};
 use cc_base::{Link, WriteFault, write_link};
 use cluster_gate::Copier;
 use core_terms::{Event, Reply, StepFault};
 use memchr::memmem;
 use mover_rounds::{Asker, pump};
-use rest_parse::{Routes, asks_end, end_of};
+use rest_parse::{Routes, SiteCall, read_site, site_call};
 use rest_replies::{MEMORY_REPLY, Told, memory_reply_is_a_reply, reply_bytes};
 use rest_stream::RawRequest;
 use review_board::Reviewer;
@@ -187,51 +187,55 @@ fn told_by<X: Asker, V: Reviewer, K: Copier, R: Threads + Sync>(
     }
 }
 
-// Whether a request is sent to where a service is asked to shut down, if that may be asked.
-fn asks_shutdown<D: Shutdown>(shutdown: &D, raw: &RawRequest) -> bool
-    ensures { result ≡ (D.offered shutdown.now && asks_end raw.now) }
+// What a request asks of the service itself, where that is offered.
+fn site_asked<D: Site>(site: &D, raw: &RawRequest) -> Option<SiteCall>
+    ensures { result ≡ site_asked (D.offers site.now) raw.now }
 {
-    shutdown.is_offered() && asks_end(raw)
+    match site_call(raw) {
+        Some(call) if site.offers(call) => Some(call),
+        _ => None,
+    }
 }
 
-// What a request is told that was sent to where a service is asked to shut down.
-fn told_of_end<D: Shutdown>(alloc: Global, shutdown: &D, raw: &RawRequest) -> Told
-    ensures ending { IsEnding (end_meaning raw.now) result }
+// Does what it asks, and says what it is told.
+fn told_of_site<D: Site>(alloc: Global, site: &D, call: SiteCall, raw: &RawRequest) -> Told
+    ensures told { IsSiteTold call (site_meaning call raw.now) result }
     ensures blameless { fault_told result ≡ None }
 {
-    match end_of(alloc, raw) {
-        Ok(()) => {
-            shutdown.begin();
-            Told::Ending
-        }
+    match read_site(alloc, call, raw) {
+        Ok(()) => match call {
+            SiteCall::Page => Told::Page,
+            SiteCall::Close => {
+                site.shut_down();
+                Told::Ending
+            }
+        },
         Err(fault) => Told::Http(fault),
     }
 }
 
-// Shuts the service down, where a request may ask that, or does what it means, and says what it is
-// told.
-fn told_to<X: Asker, V: Reviewer, K: Copier, D: Shutdown, R: Threads + Sync>(
+// Does what a request asks of the service itself, or what it means, and says what it is told.
+fn told_to<X: Asker, V: Reviewer, K: Copier, D: Site, R: Threads + Sync>(
     rt: &R,
     alloc: Global,
     asker: &mut X,
     reviewer: &mut V,
     copier: &mut K,
-    shutdown: &D,
+    site: &D,
     routes: &Routes,
     raw: &RawRequest,
 ) -> Told
     ensures since { X.since asker.old asker.new }
     ensures since_board { V.since reviewer.old reviewer.new }
-    ensures heard { HasHeard (D.offered shutdown.now) (X.known asker.old) (X.known asker.new)
+    ensures heard { HasHeard (D.offers site.now) (X.known asker.old) (X.known asker.new)
         (V.board reviewer.old) (V.board reviewer.new) (copier_of K.copies K.faults copier.old)
         (copier_of K.copies K.faults copier.new) raw.now result }
     ensures blamed { IsBlamed (fault_told result) (X.known asker.old).blamed
         (X.known asker.new).blamed }
 {
-    if asks_shutdown(shutdown, raw) {
-        told_of_end(alloc, shutdown, raw)
-    } else {
-        told_by(rt, alloc, asker, reviewer, copier, routes, raw)
+    match site_asked(site, raw) {
+        Some(call) => told_of_site(alloc, site, call, raw),
+        None => told_by(rt, alloc, asker, reviewer, copier, routes, raw),
     }
 }
 
@@ -276,20 +280,20 @@ pub fn write_reply<L: Link>(
 }
 
 /// Answers one request.
-pub fn answer<X: Asker, V: Reviewer, K: Copier, D: Shutdown, L: Link, R: Threads + Sync>(
+pub fn answer<X: Asker, V: Reviewer, K: Copier, D: Site, L: Link, R: Threads + Sync>(
     rt: &R,
     alloc: Global,
     asker: &mut X,
     reviewer: &mut V,
     copier: &mut K,
-    shutdown: &D,
+    site: &D,
     routes: &Routes,
     raw: &RawRequest,
     link: &mut L,
 ) -> Result<(), WriteFault>
     ensures since { X.since asker.old asker.new }
     ensures since_board { V.since reviewer.old reviewer.new }
-    ensures answered { HasAnswered (D.offered shutdown.now) (X.known asker.old)
+    ensures answered { HasAnswered (D.offers site.now) (X.known asker.old)
         (X.known asker.new) (V.board reviewer.old) (V.board reviewer.new)
         (copier_of K.copies K.faults copier.old) (copier_of K.copies K.faults copier.new) raw.now
         (L.written link.old) (L.written link.new) result }
@@ -297,6 +301,6 @@ pub fn answer<X: Asker, V: Reviewer, K: Copier, D: Shutdown, L: Link, R: Threads
     ensures left { L.left link.new ≡ L.left link.old }
     ensures faults { L.Source.faults link.new ≡ L.Source.faults link.old }
 {
-    let told = told_to(rt, alloc, asker, reviewer, copier, shutdown, routes, raw);
+    let told = told_to(rt, alloc, asker, reviewer, copier, site, routes, raw);
     write_reply(alloc, link, &told, asks_head(raw))
 }

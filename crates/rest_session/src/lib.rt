@@ -7,11 +7,11 @@ mod calls;
 mod laws;
 mod reviewed;
 mod session;
-mod shutdown;
+mod site;
 mod whole;
 
 pub use calls::{Asked, asked_by, plainly_asked};
 pub use laws::only_detects_heal;
 pub use session::{LinkEnd, serve};
-pub use shutdown::{NoShutdown, Shutdown};
+pub use site::{PageAlone, Site};
 pub use whole::{SessionEnd, finish, run_session};

@@ -5,7 +5,7 @@ ghost use Rattle.mover_rounds.specs.Made.{copier_of};
 ghost use Rattle.rest_session.specs.Answered.{HasServed, IsRefused, end_of};
 
 use crate::answer::{answer, write_reply};
-use crate::shutdown::Shutdown;
+use crate::site::Site;
 use cc_base::Link;
 use cluster_gate::Copier;
 use mover_rounds::Asker;
@@ -70,13 +70,13 @@ fn refuse<L: Link>(alloc: Global, link: &mut L, why: Stop) -> LinkEnd
 }
 
 // Answers requests until the link ends.
-fn serve_with<X: Asker, V: Reviewer, K: Copier, D: Shutdown, L: Link, R: Threads + Sync>(
+fn serve_with<X: Asker, V: Reviewer, K: Copier, D: Site, L: Link, R: Threads + Sync>(
     rt: &R,
     alloc: Global,
     asker: &mut X,
     reviewer: &mut V,
     copier: &mut K,
-    shutdown: &D,
+    site: &D,
     routes: &Routes,
     mut reader: Reader,
     link: &mut L,
@@ -86,7 +86,7 @@ fn serve_with<X: Asker, V: Reviewer, K: Copier, D: Shutdown, L: Link, R: Threads
     // What was asked, and what the link was answered.
     ensures since { X.since asker.old asker.new }
     ensures since_board { V.since reviewer.old reviewer.new }
-    ensures served { HasServed (D.offered shutdown.now) (X.known asker.old) (X.known asker.new)
+    ensures served { HasServed (D.offers site.now) (X.known asker.old) (X.known asker.new)
         (V.board reviewer.old) (V.board reviewer.new)
         (copier_of K.copies K.faults copier.old) (copier_of K.copies K.faults copier.new)
         (L.left link.old) (L.written link.old) (L.written link.new) result }
@@ -101,17 +101,13 @@ fn serve_with<X: Asker, V: Reviewer, K: Copier, D: Shutdown, L: Link, R: Threads
     loop {
         match reader.next(alloc, link).into_result() {
             Ok(raw) => {
-                if answer(
-                    rt, alloc, asker, reviewer, copier, shutdown, routes, &raw, link,
-                )
-                .is_err()
-                {
+                if answer(rt, alloc, asker, reviewer, copier, site, routes, &raw, link).is_err() {
                     return LinkEnd::WriteFault;
                 }
                 if raw.closes {
                     return LinkEnd::Closed;
                 }
-                if shutdown.has_begun() {
+                if site.is_shut() {
                     return LinkEnd::ShutDown;
                 }
             }
@@ -122,18 +118,18 @@ fn serve_with<X: Asker, V: Reviewer, K: Copier, D: Shutdown, L: Link, R: Threads
 
 /// Answers the requests of a link in their order, each by the reply to its own entries, until the
 /// link ends, or the service was asked to shut down.
-pub fn serve<X: Asker, V: Reviewer, K: Copier, D: Shutdown, L: Link, R: Threads + Sync>(
+pub fn serve<X: Asker, V: Reviewer, K: Copier, D: Site, L: Link, R: Threads + Sync>(
     rt: &R,
     alloc: Global,
     asker: &mut X,
     reviewer: &mut V,
     copier: &mut K,
-    shutdown: &D,
+    site: &D,
     link: &mut L,
 ) -> LinkEnd
     ensures since { X.since asker.old asker.new }
     ensures since_board { V.since reviewer.old reviewer.new }
-    ensures served { HasServed (D.offered shutdown.now) (X.known asker.old) (X.known asker.new)
+    ensures served { HasServed (D.offers site.now) (X.known asker.old) (X.known asker.new)
         (V.board reviewer.old) (V.board reviewer.new)
         (copier_of K.copies K.faults copier.old) (copier_of K.copies K.faults copier.new)
         (L.left link.old) (L.written link.old) (L.written link.new) result }
@@ -151,6 +147,6 @@ pub fn serve<X: Asker, V: Reviewer, K: Copier, D: Shutdown, L: Link, R: Threads 
         return LinkEnd::Memory;
     };
     serve_with(
-        rt, alloc, asker, reviewer, copier, shutdown, &routes, reader, link,
+        rt, alloc, asker, reviewer, copier, site, &routes, reader, link,
     )
 }

@@ -13,7 +13,7 @@ ghost use Rattle.mover_rounds.specs.Owned.{known_by_owner};
 ghost use Rattle.rest_session.specs.Sessions.{IsSession};
 
 use crate::session::{LinkEnd, serve};
-use crate::shutdown::NoShutdown;
+use crate::site::PageAlone;
 use cc_base::Link;
 use cluster_gate::{Admin, Copier};
 use control_core::Book;
@@ -99,7 +99,7 @@ pub fn run_session<A: Admin, V: Reviewer, K: Copier, L: Link, R: Threads + Sync>
     ensures write_fault { result.link ≡ LinkEnd.WriteFault
         → HasRisen (L.Sink.faults link.old) (L.Sink.faults link.new) }
 {
-    let ended = serve(rt, alloc, book, reviewer, copier, &NoShutdown, link);
+    let ended = serve(rt, alloc, book, reviewer, copier, &PageAlone(false), link);
     close(book);
     let drain = finish(rt, alloc, book, copier);
     SessionEnd { link: ended, drain }

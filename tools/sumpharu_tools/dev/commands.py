@@ -115,6 +115,7 @@ OPTIONS = {
             "accepts any number of connections, at most --links at once, until `POST /cluster/close` asks it to shut down",
             "it accepts --links in all",
         ),
+        Option("--page", "", "has a page at `/`, which shows brokers, partitions, plans and the executor to a browser", "there is none"),
         Option("--review", "", "keeps what would start something on a review board until it is approved there", "it starts at once"),
     )
 }
@@ -158,7 +159,7 @@ COMMANDS = (
     Command(
         "serve",
         ("FILE",),
-        ("--listen", "--links", "--forever", "--movers", "--planners", "--review"),
+        ("--listen", "--links", "--forever", "--movers", "--planners", "--review", "--page"),
         "answers the HTTP requests of links that come in at an address, over an in-process cluster that links, movers and planners "
         "share; once as many links as asked were accepted and have ended, or with --forever once it was asked to shut down, it carries out "
         "what is left, and ends. It neither reads the input nor writes the output",

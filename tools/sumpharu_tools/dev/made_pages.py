@@ -1,4 +1,5 @@
-"""docs/CRATES.md, docs/DEFINITIONS.md and a few tables of other pages, made of what crates.txt and the crates' and tools' own files say."""
+"""docs/CRATES.md, docs/DEFINITIONS.md and a few tables of other pages, made of what crates.txt and the crates' and tools' own files say, and
+the source that holds the service's page, made of web/page.html."""
 from __future__ import annotations
 
 import pathlib
@@ -284,11 +285,32 @@ def page_with_tables(name: str) -> str:
     return MARK.sub(lambda found: found[1] + tables[found[2]]() + found[3], page)
 
 
+# The service's page
+
+SOURCE_HEAD = """// The page of a service, made of web/page.html by `./sumpharu-tools make-pages`.
+
+/// Its text.
+"""
+
+
+def page_source() -> str:
+    """The service's page as a constant of a crate."""
+    page = read(ROOT / "web/page.html")
+    if '"###' in page:
+        raise Fault("web/page.html holds what ends a raw string")
+    return f'{SOURCE_HEAD}pub const PAGE: &str = r###"{page}"###;\n'
+
+
 WHOLE = {"CRATES.md": crates_page, "DEFINITIONS.md": definitions_page}
-PAGES = {**WHOLE, **{name: partial(page_with_tables, name) for name in MADE}}
+# By their paths from the checkout's root.
+FILES = {
+    **{f"docs/{name}": page for name, page in WHOLE.items()},
+    **{f"docs/{name}": partial(page_with_tables, name) for name in MADE},
+    "crates/rest_replies/src/page.rt": page_source,
+}
 
 
-def stale(folder: pathlib.Path = ROOT / "docs") -> List[str]:
-    """The names of the pages that aren't what would be made now."""
-    made = {name: page() for name, page in PAGES.items()}
-    return [name for name, text in made.items() if not (folder / name).exists() or read(folder / name) != text]
+def stale(root: pathlib.Path = ROOT) -> List[str]:
+    """The paths of the files that aren't what would be made now."""
+    made = {path: make() for path, make in FILES.items()}
+    return [path for path, text in made.items() if not (root / path).exists() or read(root / path) != text]

@@ -10,7 +10,8 @@ without judging:
     real
   - the memory of the process, now (VmRSS) and at its most (VmHWM), before and after --polls requests for the state over one link, and so the bytes
     that a request adds
-  - with --plans N, the bytes that each of N dry runs adds, and each of N removals of a broker that are carried out, beside two movers and a planner
+  - with --plans N, the bytes that each of N dry runs adds, and each of N removals of a broker that are carried out, beside two movers and a planner.
+    Six of each come before, in which the heap grows to the size that one plan needs
 
 The client and the plain server are polls.rs, which stands beside this module, and which 'rustc -O' compiles in a temporary folder: so both services
 have the same client, and the number of requests is known. Another client, such as wrk, may be tried by hand; it has its own way of counting.
@@ -34,6 +35,8 @@ STATE = "/kafkacruisecontrol/state"
 REQUEST = f"GET {STATE} HTTP/1.1\r\n\r\n".encode()
 # What is measured takes less.
 SECONDS = 600
+# So many plans come before those by which the memory is measured.
+WARMING = 6
 
 
 class Service:
@@ -156,15 +159,14 @@ class Measure:
     def print_plans(self) -> None:
         print(f"memory, and {self.words.plans} dry runs, and as many removals that are carried out, beside 2 movers and a planner")
         with self.serve(0, 2, 1) as service:
-            self.rebalance(service.link, "")
-            memory = service.memory()[0]
             for name, carried_out in (("a dry run", False), ("a removal", True)):
-                for number in range(self.words.plans):
+                for number in range(WARMING + self.words.plans):
+                    if number == WARMING:
+                        memory = service.memory()[0]
                     query = f"remove_broker?brokerid={number}&dryrun=false" if carried_out else "rebalance"
                     self.plan(service.link, query)
-                now = service.memory()[0]
-                print(f"  bytes that {name} adds: {(now - memory) * 1024 / self.words.plans:.0f}", flush=True)
-                memory = now
+                added = service.memory()[0] - memory
+                print(f"  bytes that {name} adds: {added * 1024 / self.words.plans:.0f}", flush=True)
 
 
 def check(words: argparse.Namespace) -> None:

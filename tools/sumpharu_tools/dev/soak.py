@@ -255,6 +255,7 @@ class Soak:
         link = serving.connect(self.process, self.port, SECONDS)
         if link.ask("POST", "/cluster/close").code != 200:
             self.shared.wrong.append("it doesn't shut down")
+        link.close()
         out, err = self.process.communicate(timeout=SECONDS)
         if self.process.returncode or out or err:
             self.shared.wrong.append(f"it ended with status {self.process.returncode}: {err.decode(errors='replace')}")

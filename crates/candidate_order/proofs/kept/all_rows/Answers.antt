@@ -15,6 +15,6 @@ loop-broker-preserved g c =
       brokers_are = rw (c.in_ok-push.ensures.items, map-append (λ (r : Row). r.id) c.loop-broker.rows.items (c.in_ok-row.row ∷ []), c.loop-broker.invariant.brokers_are, c.in_ok-row.ensures.id)
           (sym (take_more (ids_of brokers) c.loop-broker.broker 0 l));
       rows_are = rw c.in_ok-push.ensures.items
-          (All-push (IsRow g.G.Goal.weighs (λ x. g.G.Goal.room_at x c.args.case.now c.args.book.now.lists) (g.G.Goal.heat_at c.args.goal.now c.args.case.now c.args.book.now.lists) c.args.earlier.now)
+          (All-push (IsRow g.G.Goal.weighs (λ x. g.G.Goal.room_at x c.args.case.now c.args.book.now.lists) (g.G.Goal.heat_at c.args.goal.now c.args.case.now c.args.book.now.lists) c.args.earlier.now c.args.case.now)
           c.loop-broker.rows.items c.in_ok-row.row c.loop-broker.invariant.rows_are c.in_ok-row.ensures.row);
     }

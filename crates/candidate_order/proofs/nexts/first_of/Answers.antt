@@ -12,7 +12,7 @@ returns-in-Some g c =
     let lists = c.args.book.now.lists in
     first-flat (Step case (map (λ x. g.G.Goal.meaning x case) c.args.earlier.now) (g.G.Goal.meaning c.args.goal.now case) lists) (candidates_at c.args.kind case lists c.args.source.now.id)
     c.args.replicas.now c.loop-part.part-index 0 c.in-Some.action c.loop-part-test.true c.loop-part.invariant
-    (rw c.in-Some.is at c.first_at-found.ensures)
+    (rw c.in-Some.is at c.first_at_since-found.ensures)
 
 pub loop-part-preserved : goal.loop-part-preserved
 loop-part-preserved g c =
@@ -20,7 +20,7 @@ loop-part-preserved g c =
     let lists = c.args.book.now.lists in
     All-more (λ (p : ℕ). NoStep case (map (λ x. g.G.Goal.meaning x case) c.args.earlier.now) (g.G.Goal.meaning c.args.goal.now case) lists (candidates_at c.args.kind case lists c.args.source.now.id p))
     c.args.replicas.now c.loop-part.part-index 0 c.loop-part-test.true c.loop-part.invariant
-    (rw c.in_default.is at c.first_at-found.ensures)
+    (rw c.in_default.is at c.first_at_since-found.ensures)
 
 pub returns : goal.returns
 returns g c =
@@ -35,3 +35,6 @@ returns-then-serves_nobody g c =
     let lists = c.args.book.now.lists in
     none-flat (Step case (map (λ x. g.G.Goal.meaning x case) c.args.earlier.now) (g.G.Goal.meaning c.args.goal.now case) lists) (candidates_at c.args.kind case lists c.args.source.now.id)
     c.args.replicas.now (λ k d l. c.if-serves_nobody.ensures refl (get_or c.args.replicas.now k d))
+
+pub first_at_since-found-requires-clause-since : goal.first_at_since-found-requires-clause-since
+first_at_since-found-requires-clause-since g c = c.rests_since-since.ensures _ (c.requires.within c.loop-part.part-index 0 c.loop-part-test.true)

@@ -16,19 +16,19 @@ returns-then-not-may_leave g c =
     All-map (λ a. Step case (map (λ x. g.G.Goal.meaning x case) c.args.earlier.now) (g.G.Goal.meaning c.args.goal.now case) lists a → ⊥) (λ (r : Row). Move c.args.part c.args.source.now.id r.id) c.args.rows.now
     (λ k r l s. c.if-not-may_leave.ensures refl (get_or c.args.rows.now k r).id (fits-legal case lists (Move c.args.part c.args.source.now.id (get_or c.args.rows.now k r).id) s.legal) s.accepted)
 
-pub returns-then-move_serves : goal.returns-then-move_serves
-returns-then-move_serves g c =
+pub returns-then-fresh_serves : goal.returns-then-fresh_serves
+returns-then-fresh_serves g c =
     let case = c.args.case.now in
     let lists = c.args.book.now.lists in
     first-at (Step case (map (λ x. g.G.Goal.meaning x case) c.args.earlier.now) (g.G.Goal.meaning c.args.goal.now case) lists) (λ (r : Row). Move c.args.part c.args.source.now.id r.id) c.args.rows.now c.loop-row.row-index c.row-item.result
-    c.loop-row-test.true c.loop-row.invariant c.row-item.is (c.if-move_serves.ensures.0 refl)
+    c.loop-row-test.true c.loop-row.invariant c.row-item.is (c.if-fresh_serves.ensures.0 refl)
 
 pub loop-row-preserved : goal.loop-row-preserved
 loop-row-preserved g c =
     let case = c.args.case.now in
     let lists = c.args.book.now.lists in
     let no : Step case (map (λ x. g.G.Goal.meaning x case) c.args.earlier.now) (g.G.Goal.meaning c.args.goal.now case) lists (Move c.args.part c.args.source.now.id c.row-item.result.id) → ⊥ =
-    λ s. false≢true (c.if-move_serves.ensures.1 s) in
+    λ s. false≢true (c.if-fresh_serves.ensures.1 s) in
     All-more (λ (r : Row). Step case (map (λ x. g.G.Goal.meaning x case) c.args.earlier.now) (g.G.Goal.meaning c.args.goal.now case) lists (Move c.args.part c.args.source.now.id r.id) → ⊥)
     c.args.rows.now c.loop-row.row-index c.row-item.result c.loop-row-test.true c.loop-row.invariant
     (rw c.row-item.is at no)

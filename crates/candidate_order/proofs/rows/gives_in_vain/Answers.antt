@@ -30,7 +30,7 @@ returns g c = λ none p.
     let keep : Action → Bool = λ x. is_below (hot (taker x)) in
     let below = c.as_slice-below.result.now in
     let below_are : map (λ (r : Row). r.id) below ≡ filter (λ b. is_below (hot b)) (ids_of case.brokers) = rw c.as_slice-below.ensures.value c.requires.scan.below_are.brokers_are in
-    let rows_are : All (IsRow g.G.Goal.weighs (λ x. g.G.Goal.room_at x case lists) hot c.args.earlier.now) below = rw c.as_slice-below.ensures.value c.requires.scan.below_are.rows_are in
+    let rows_are : All (IsRow g.G.Goal.weighs (λ x. g.G.Goal.room_at x case lists) hot c.args.earlier.now case) below = rw c.as_slice-below.ensures.value c.requires.scan.below_are.rows_are in
     let idle : (b : ℕ) → is_below (hot b) ≡ false → step (Move p a b) → ⊥ = λ b e s.
     weighed-below (g.G.Goal.weighs c.args.goal.now) (g.G.Goal.meaning c.args.goal.now case) hot case.parts lists
     (g.met.G.Goal.idle_trades c.args.goal.now case lists c.requires.made_goal c.brokers-brokers.ensures.case c.requires.belongs.lists_belong)
@@ -56,7 +56,7 @@ returns-then-gives_to_new g c = λ none p.
     let keep : Action → Bool = λ x. added (taker x) in
     let new = c.as_slice-added.result.now in
     let new_are : map (λ (r : Row). r.id) new ≡ filter added (ids_of case.brokers) = rw c.as_slice-added.ensures.value c.requires.scan.added_are.brokers_are in
-    let rows_are : All (IsRow g.G.Goal.weighs (λ x. g.G.Goal.room_at x case lists) hot c.args.earlier.now) new = rw c.as_slice-added.ensures.value c.requires.scan.added_are.rows_are in
+    let rows_are : All (IsRow g.G.Goal.weighs (λ x. g.G.Goal.room_at x case lists) hot c.args.earlier.now case) new = rw c.as_slice-added.ensures.value c.requires.scan.added_are.rows_are in
     let idle : (b : ℕ) → is_below (hot b) ≡ false → step (Move p a b) → ⊥ = λ b e s.
     weighed-below (g.G.Goal.weighs c.args.goal.now) (g.G.Goal.meaning c.args.goal.now case) hot case.parts lists
     (g.met.G.Goal.idle_trades c.args.goal.now case lists c.requires.made_goal c.brokers-brokers.ensures.case c.requires.belongs.lists_belong)

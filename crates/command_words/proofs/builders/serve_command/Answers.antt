@@ -2,7 +2,7 @@ use Rattle.std.proofs.Common.{◌≡◌, ◌∙◌, ap₂, false, ◌||◌, code
 use Rattle.std.proofs.lemmas.Result.{IfOk-weaker}
 use Rattle.clap.specs.Words.{app_of, new_app, with_rule}
 use Rattle.clap.specs.declared.builder.command.Command.TheViews.{out-Command}
-use Rattle.command_words.specs.Arguments.{file_rule, links_rule, listen_rule, movers_rule, planners_rule, review_rule}
+use Rattle.command_words.specs.Arguments.{file_rule, forever_rule, links_rule, listen_rule, movers_rule, planners_rule, review_rule}
 use Rattle.command_words.proofs.builders.serve_command.Goals as goal
 
 pub returns : goal.returns
@@ -21,7 +21,9 @@ returns c =
     let l5 : (out-Command c.in_ok-with_links.with_links).has_globals ≡ false = c.in_ok-with_links.ensures.globals ∙ ap₂ ◌||◌ l4 c.links.ensures.local in
     let s6 : app_of c.in_ok-with_review.with_review ≡ with_rule (with_rule (with_rule (with_rule (with_rule (with_rule (new_app (codes "serve")) file_rule) movers_rule) planners_rule) listen_rule) links_rule) review_rule = c.in_ok-with_review.ensures.shape c.review.ensures.local ∙ ap₂ with_rule s5 c.review.ensures.rule in
     let l6 : (out-Command c.in_ok-with_review.with_review).has_globals ≡ false = c.in_ok-with_review.ensures.globals ∙ ap₂ ◌||◌ l5 c.review.ensures.local in
+    let s7 : app_of c.in_ok-with_forever.with_forever ≡ with_rule (with_rule (with_rule (with_rule (with_rule (with_rule (with_rule (new_app (codes "serve")) file_rule) movers_rule) planners_rule) listen_rule) links_rule) review_rule) forever_rule = c.in_ok-with_forever.ensures.shape c.forever.ensures.local ∙ ap₂ with_rule s6 c.forever.ensures.rule in
+    let l7 : (out-Command c.in_ok-with_forever.with_forever).has_globals ≡ false = c.in_ok-with_forever.ensures.globals ∙ ap₂ ◌||◌ l6 c.forever.ensures.local in
     record {
-      app = IfOk-weaker c.arg-7.result _ _ (λ r h. h.shape c.forever.ensures.local ∙ ap₂ with_rule s6 c.forever.ensures.rule) c.arg-7.ensures;
-      local = IfOk-weaker c.arg-7.result _ _ (λ r h. h.globals ∙ ap₂ ◌||◌ l6 c.forever.ensures.local) c.arg-7.ensures;
+      app = IfOk-weaker c.arg-8.result _ _ (λ r h. h.shape c.page.ensures.local ∙ ap₂ with_rule s7 c.page.ensures.rule) c.arg-8.ensures;
+      local = IfOk-weaker c.arg-8.result _ _ (λ r h. h.globals ∙ ap₂ ◌||◌ l7 c.page.ensures.local) c.arg-8.ensures;
     }

@@ -13,14 +13,18 @@ scan-init g c = record {
   belongs = c.requires.belongs;
   order_is = c.requires.order;
   case_is = refl;
-  kept_is = c.in_ok-scan.ensures;
+  kept_is = c.in_ok-scan.ensures.kept;
+  rests_are = c.in_ok-scan.ensures.rests;
 }
 
-pub note-requires-clause-applies : goal.note-requires-clause-applies
-note-requires-clause-applies g c = let first = rw c.in-Some.is at c.in_ok-next.ensures.next in fits-legal _ _ _ first.serves.legal
+pub step-requires-clause-applies : goal.step-requires-clause-applies
+step-requires-clause-applies g c = let first = rw c.in-Some.is at c.in_ok-next.ensures.next in fits-legal _ _ _ first.serves.legal
 
-pub note-requires-clause-scan : goal.note-requires-clause-scan
-note-requires-clause-scan g c = rw c.in-Some.is at c.in_ok-next.ensures.scan
+pub step-requires-clause-scan : goal.step-requires-clause-scan
+step-requires-clause-scan g c = rw c.in-Some.is at c.in_ok-next.ensures.scan
+
+pub step-requires-clause-known : goal.step-requires-clause-known
+step-requires-clause-known g c = let first = rw c.in-Some.is at c.in_ok-next.ensures.next in targets_known-legal _ _ _ first.serves.legal
 
 pub after-requires-clause-applies : goal.after-requires-clause-applies
 after-requires-clause-applies g c = let first = rw c.in-Some.is at c.in_ok-next.ensures.next in fits-legal _ _ _ first.serves.legal
@@ -45,5 +49,6 @@ scan-preserved g c = let first = rw c.in-Some.is at c.in_ok-next.ensures.next in
   };
   order_is = rw c.apply.ensures.lists c.after.ensures;
   case_is = c.apply.ensures.cluster ∙ c.scan.invariant.case_is;
-  kept_is = rw c.apply.ensures.lists c.note.ensures;
+  kept_is = rw c.apply.ensures.lists c.step.ensures.kept;
+  rests_are = rw c.apply.ensures.lists c.step.ensures.rests;
 }

@@ -1,5 +1,6 @@
 use Rattle.std.proofs.Common.{map, ◌≡◌}
 use Rattle.candidate_order.specs.Order.{IsOrderOf}
+use Rattle.candidate_order.specs.Rests.{IsRestsFor}
 use Rattle.candidate_order.specs.Scan.{IsKept}
 use Rattle.goal_optimizer.specs.Firsts.{FirstSteps}
 use Rattle.plan_terms.specs.Belongs.{IsBookOf}
@@ -17,6 +18,7 @@ invariant-scan g l = record {
   order_is : IsOrderOf l.case l.book.lists l.order;
   case_is : l.book.cluster ≡ l.initial.book.cluster;
   kept_is : IsKept g.G.Goal.weighs (λ x. g.G.Goal.room_at x l.case l.book.lists) l.earlier l.case l.scan;
+  rests_are : IsRestsFor g.G.Goal l.case l.book.lists l.earlier l.goal l.scan.rests;
 }
 
 abbrev pub decreases-scan : goal.decreases-scan

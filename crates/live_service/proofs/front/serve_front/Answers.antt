@@ -2,6 +2,7 @@ use Rattle.std.proofs.Common.{rules, ◌≡◌, List, [], Ok, Err, Some, None, s
 use Rattle.cc_base.specs.Outside.{with_name}
 use Rattle.mover_rounds.specs.Made.{copier_of}
 use Rattle.mover_workers.specs.Callers.{CallerView}
+use Rattle.rest_session.specs.Heard.{paged}
 use Rattle.live_service.specs.Asked.{ServingAsked, asked_of}
 use Rattle.live_service.specs.Boards.{BoardCallerView}
 use Rattle.live_service.specs.Fronts.{HasAccepted, IsUnheard}
@@ -36,7 +37,7 @@ returns-in-Ok g c =
     let back = c.serve_links-callers.result in
     let old : FrontView = record { copier = view c.front-2.inside.copier; console = link c.front-2.inside.console; service = c.front-2.inside.service } in
     let new : FrontView = record { copier = old.copier; console = old.console; service = back.1 } in
-    let accepted : HasAccepted c.args.callers.book back.0.book c.args.callers.board back.0.board old.service new.service serving.links (Ok tt) = rw c.in-Ok.is at c.serve_links-callers.ensures.accepted in
+    let accepted : HasAccepted (paged serving.page) c.args.callers.book back.0.book c.args.callers.board back.0.board old.service new.service serving.links (Ok tt) = rw c.in-Ok.is at c.serve_links-callers.ensures.accepted in
     let heard : new.service.net.heard ≡ with_name old.service.net.heard asked.address = rw c.in-Ok.is at c.serve_links-callers.ensures.heard in
     let served : HasServed (Some asked) c.args.callers.book c.close-2.new.self c.args.callers.board back.0.board old new front.Accepted =
     links_served c.args.callers.book back.0.book c.close-2.new.self c.args.callers.board back.0.board old new c.close-2.ensures.since c.close-2.ensures.closed c.close-2.ensures.own.placed asked c.if-serving.false accepted heard refl refl in
@@ -52,7 +53,7 @@ returns g c =
     let failed = c.in-Err.field-0 in
     let old : FrontView = record { copier = view c.front-2.inside.copier; console = link c.front-2.inside.console; service = c.front-2.inside.service } in
     let new : FrontView = record { copier = old.copier; console = old.console; service = back.1 } in
-    let accepted : HasAccepted c.args.callers.book back.0.book c.args.callers.board back.0.board old.service new.service serving.links (Err failed) = rw c.in-Err.is at c.serve_links-callers.ensures.accepted in
+    let accepted : HasAccepted (paged serving.page) c.args.callers.book back.0.book c.args.callers.board back.0.board old.service new.service serving.links (Err failed) = rw c.in-Err.is at c.serve_links-callers.ensures.accepted in
     let why : IsUnheard asked.address old.service.net new.service.net new.service.served = rw c.in-Err.is at c.serve_links-callers.ensures.unheard in
     let served : HasServed (Some asked) c.args.callers.book c.close-2.new.self c.args.callers.board back.0.board old new front.ListenerFault =
     links_failed c.args.callers.book back.0.book c.close-2.new.self c.args.callers.board back.0.board old new c.close-2.ensures.since c.close-2.ensures.closed c.close-2.ensures.own.placed asked failed c.if-serving.false accepted why refl refl in

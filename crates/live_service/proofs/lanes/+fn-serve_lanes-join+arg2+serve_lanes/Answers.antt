@@ -1,6 +1,6 @@
 use denote.Param.{param}
 use denote.Param.Send.{IsSend}
-use Rattle.live_service.specs.Asked.{HasSpace}
+use Rattle.live_service.specs.Asked.{HasSpace, offering}
 use Rattle.std.proofs.Common.{◌-◌, suc, rules, ◌≡◌, ◌≤◌, ◌∷◌, ◌∙◌, Ok, Err, List, ap, refl, sym, arith}
 use Rattle.mover_rounds.specs.Made.{copier_of}
 use Rattle.mover_workers.specs.Callers.{IsSince}
@@ -13,7 +13,7 @@ use Rattle.live_service.proofs.lanes.+fn-serve_lanes-join+arg2+serve_lanes.Goals
 
 pub returns-then-lanes-eq0 : goal.returns-then-lanes-eq0
 returns-then-lanes-eq0 g t c = record {
-  ran = none_ran c.args.callers.book c.args.callers.board c.args.service c.args.service c.args.lanes (Ok tt) refl refl (omega arith) refl refl c.requires.space.no_lane (omega arith) (omega arith) (omega arith) (search rules) tt;
+  ran = none_ran (offering c.args.page) c.args.callers.book c.args.callers.board c.args.service c.args.service c.args.lanes (Ok tt) refl refl (omega arith) refl refl c.requires.space.no_lane (omega arith) (omega arith) (omega arith) (search rules) tt;
 }
 
 pub returns-in_default : goal.returns-in_default
@@ -22,7 +22,7 @@ returns-in_default g t c =
     let u = c.split.new.self in
     let rest = c.split.ensures.rest in
     record {
-      ran = none_ran c.args.callers.book c.args.callers.board s u c.args.lanes (Err _) c.split.ensures.accepted c.split.ensures.heard c.split.ensures.cause.later (ap (λ (x : ServiceView). x.copiers) rest) (ap (λ (x : ServiceView). x.served) rest) (ap (λ (x : ServiceView). x.lanes) rest ∙ c.requires.space.no_lane)
+      ran = none_ran (offering c.args.page) c.args.callers.book c.args.callers.board s u c.args.lanes (Err _) c.split.ensures.accepted c.split.ensures.heard c.split.ensures.cause.later (ap (λ (x : ServiceView). x.copiers) rest) (ap (λ (x : ServiceView). x.served) rest) (ap (λ (x : ServiceView). x.lanes) rest ∙ c.requires.space.no_lane)
           (omega (arith, ap (λ (x : ServiceView). x.room) rest)) (omega (arith, ap (λ (x : ServiceView). x.places) rest)) (omega (arith, ap (λ (x : ServiceView). x.lane_room) rest)) tt c.in_default.ensures.cause.failed;
     }
 
@@ -53,9 +53,9 @@ returns g t c =
     let put = c.note_lane.ensures.noted in
     let since : IsSince own back = search rules in
     let board_since : IsBoardCallerSince board_own board_back = search rules in
-    let ran : HasServedLane own.turn.start.file board_own.reviews (lane_state own.pass board_own.pass k) (lane_state back.pass board_back.pass l) before lane = search rules in
+    let ran : HasServedLane own.turn.start.file (offering c.args.page) board_own.reviews (lane_state own.pass board_own.pass k) (lane_state back.pass board_back.pass l) before lane = search rules in
     record {
-      ran = lanes_more c.args.callers.book kept own u.book back c.join.new.self c.split-caller.ensures.turn.0 c.split-caller.ensures.turn.1 c.split-caller.ensures.cut since c.join.ensures.turn c.join.ensures.joined c.join.ensures.own.placed
+      ran = lanes_more (offering c.args.page) c.args.callers.book kept own u.book back c.join.new.self c.split-caller.ensures.turn.0 c.split-caller.ensures.turn.1 c.split-caller.ensures.cut since c.join.ensures.turn c.join.ensures.joined c.join.ensures.own.placed
           c.args.callers.board board_kept board_own u.board board_back c.join-2.new.self c.split-board.ensures.turn.0 c.split-board.ensures.reviews.0 c.split-board.ensures.reviews.1 c.split-board.ensures.cut board_since c.join-2.ensures.turn c.join-2.ensures.reviews c.join-2.ensures.joined c.join-2.ensures.own.placed
           s s1 t1 whole before lane k l c.args.lanes _ _ c.fails_too-end.result c.fails_too-end.ensures (one_less _ c.args.lanes refl c.if-lanes-eq0.false)
           c.in-Ok.ensures.unused

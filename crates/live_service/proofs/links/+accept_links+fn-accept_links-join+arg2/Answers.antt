@@ -1,16 +1,16 @@
-use Rattle.std.proofs.Common.{rules, ◌≡◌, ◌≤◌, ◌∷◌, ◌∙◌, Ok, Err, List, false, ap, refl, sym, arith}
+use Rattle.std.proofs.Common.{rules, ◌≡◌, ◌≤◌, ◌∷◌, ◌∙◌, Ok, Err, List, ap, refl, sym, arith}
 use Rattle.mover_rounds.specs.Made.{copier_of}
 use Rattle.mover_workers.specs.Callers.{IsSince, known_by_caller}
-use Rattle.rest_session.specs.Answered.{HasServed}
+use Rattle.rest_session.specs.Heard.{paged}
 use Rattle.live_service.specs.Boards.{IsBoardCallerSince, board_seen}
-use Rattle.live_service.specs.Links.{HasLinkCause}
+use Rattle.live_service.specs.Links.{HasServedLink}
 use Rattle.live_service.specs.Views.{ServedView, ServiceView, link_of}
 use Rattle.live_service.proofs.Accepting.{accepted_more, kept_least, least_by, moved_least, none_accepted, one_less, same_least, tried_on}
 use Rattle.live_service.proofs.links.+accept_links+fn-accept_links-join+arg2.Goals as goal
 
 pub returns-then-links-eq0 : goal.returns-then-links-eq0
 returns-then-links-eq0 g t c = record {
-  accepted = none_accepted c.args.callers.book c.args.callers.board c.args.service c.args.service c.args.links (Ok tt) refl refl c.requires.space.none (omega arith) (omega arith) (omega arith) refl (omega arith) (search rules);
+  accepted = none_accepted (paged c.args.page) c.args.callers.book c.args.callers.board c.args.service c.args.service c.args.links (Ok tt) refl refl c.requires.space.none (omega arith) (omega arith) (omega arith) refl (omega arith) (search rules);
   tried = record { heard = refl; given_up = tt };
 }
 
@@ -20,7 +20,7 @@ returns-in_default g t c =
     let u = c.accept.new.self in
     let rest = c.accept.ensures.rest in
     record {
-      accepted = none_accepted c.args.callers.book c.args.callers.board s u c.args.links (Err _) c.in_default.ensures.failed (ap (λ (x : ServiceView). x.copiers) rest) (ap (λ (x : ServiceView). x.served) rest ∙ c.requires.space.none)
+      accepted = none_accepted (paged c.args.page) c.args.callers.book c.args.callers.board s u c.args.links (Err _) c.in_default.ensures.failed (ap (λ (x : ServiceView). x.copiers) rest) (ap (λ (x : ServiceView). x.served) rest ∙ c.requires.space.none)
           (omega (arith, ap (λ (x : ServiceView). x.room) rest)) (omega (arith, ap (λ (x : ServiceView). x.places) rest)) (omega (arith, ap (λ (x : ServiceView). x.lane_room) rest)) (ap (λ (x : ServiceView). x.lanes) rest) c.accept.ensures.later tt;
       tried = record { heard = c.accept.ensures.heard; given_up = c.in_default.ensures.given_up };
     }
@@ -54,10 +54,9 @@ returns g t c =
     let put = c.note.ensures.noted in
     let since : IsSince own back = search rules in
     let board_since : IsBoardCallerSince board_own board_back = search rules in
-    let answered : HasServed false (known_by_caller own) (known_by_caller back) (board_seen board_own.reviews board_own.pass) (board_seen board_back.reviews board_back.pass) k l before.left before.written after.written one.3.end = search rules in
-    let cause : HasLinkCause before after one.3.end = search rules in
+    let run : HasServedLink (paged c.args.page) (known_by_caller own) (known_by_caller back) (board_seen board_own.reviews board_own.pass) (board_seen board_back.reviews board_back.pass) k l before after one.3.end = search rules in
     record {
-      accepted = accepted_more c.args.callers.book kept own u.book back c.join.new.self c.split-caller.ensures.turn.0 c.split-caller.ensures.turn.1 c.split-caller.ensures.cut since c.join.ensures.turn c.join.ensures.joined c.join.ensures.own.placed
+      accepted = accepted_more (paged c.args.page) c.args.callers.book kept own u.book back c.join.new.self c.split-caller.ensures.turn.0 c.split-caller.ensures.turn.1 c.split-caller.ensures.cut since c.join.ensures.turn c.join.ensures.joined c.join.ensures.own.placed
           c.args.callers.board board_kept board_own u.board board_back c.join-2.new.self c.split-board.ensures.turn.0 c.split-board.ensures.reviews.0 c.split-board.ensures.reviews.1 c.split-board.ensures.cut board_since c.join-2.ensures.turn c.join-2.ensures.reviews c.join-2.ensures.joined c.join-2.ensures.own.placed
           s s1 t1 whole before after one.3.end k l c.args.links _ _ (one_less _ c.args.links refl c.if-links-eq0.false)
           c.in-Ok.ensures.fresh
@@ -68,7 +67,7 @@ returns g t c =
           (same_least (ap (λ (x : ServiceView). x.places) took) (ap (λ (x : ServiceView). x.places) accepted))
           (same_least (ap (λ (x : ServiceView). x.lane_room) took) (ap (λ (x : ServiceView). x.lane_room) accepted))
           (ap (λ (x : ServiceView). x.lanes) took ∙ ap (λ (x : ServiceView). x.lanes) accepted)
-          answered cause c.join-callers.ensures.first.0
+          run.answered run.cause c.join-callers.ensures.first.0
           (ap (λ (x : ServiceView). x.net) put ∙ ap (λ (x : ServiceView). x.net) gave)
           (ap (λ (x : ServiceView). x.copiers) put ∙ ap (λ (x : ServiceView). x.copiers) gave)
           (ap (λ (x : ServiceView). x.served) put ∙ ap (λ (xs : List ServedView). noted ∷ xs) (ap (λ (x : ServiceView). x.served) gave))

@@ -17,7 +17,7 @@ loop-raw-init g c = record {
   serving = rw c.requires (record {
     raws = [];
     leads = leads_first (g.L.Source.left c.args.link.now);
-    did = none_served (g.D.Shutdown.offered c.args.shutdown.now) (g.X.Asker.known c.args.asker.now) (g.V.Reviewer.board c.args.reviewer.now) (copier_of g.K.Copier.copies g.K.Copier.faults c.args.copier.now) (g.L.Sink.written c.args.link.now);
+    did = none_served (g.D.Site.offers c.args.site.now) (g.X.Asker.known c.args.asker.now) (g.V.Reviewer.board c.args.reviewer.now) (copier_of g.K.Copier.copies g.K.Copier.faults c.args.copier.now) (g.L.Sink.written c.args.link.now);
   });
   source = omega arith;
   sink = omega arith;
@@ -31,8 +31,8 @@ returns-then-is_err-clause-served g c =
     let none : IsNone (stop_of c.next.result) = rw is refl in
     let law = g.met.L.Link.beside_source in
     let beside = sym (law c.next.new.source) ∙ (c.next.ensures.beside ∙ law c.loop-raw.link) in
-    let so_far = subst (λ (o : Option (List ℕ)). IsServing (g.D.Shutdown.offered c.args.shutdown.now) (g.L.Source.left c.args.link.now) (g.L.Sink.written c.args.link.now) (stream_of c.loop-raw.reader.held (g.L.Source.left c.loop-raw.link)) o c.loop-raw.reader.given (g.X.Asker.known c.args.asker.now) (g.X.Asker.known c.loop-raw.asker) (g.V.Reviewer.board c.args.reviewer.now) (g.V.Reviewer.board c.loop-raw.reviewer) (copier_of g.K.Copier.copies g.K.Copier.faults c.args.copier.now) (copier_of g.K.Copier.copies g.K.Copier.faults c.loop-raw.copier)) (sym (ap (λ (b : Beside). b.1) beside)) inv.serving in
-    serving_cut (g.D.Shutdown.offered c.args.shutdown.now) (g.X.Asker.known c.args.asker.now) (g.X.Asker.known c.loop-raw.asker) (g.X.Asker.known c.answer.new.asker) (g.V.Reviewer.board c.args.reviewer.now) (g.V.Reviewer.board c.loop-raw.reviewer) (g.V.Reviewer.board c.answer.new.reviewer) (copier_of g.K.Copier.copies g.K.Copier.faults c.args.copier.now) (copier_of g.K.Copier.copies g.K.Copier.faults c.loop-raw.copier) (copier_of g.K.Copier.copies g.K.Copier.faults c.answer.new.copier) (g.L.Source.left c.args.link.now) (g.L.Sink.written c.args.link.now) (stream_of c.loop-raw.reader.held (g.L.Source.left c.loop-raw.link)) (g.L.Sink.written c.next.new.source) (stream_of c.next.new.self.held (g.L.Source.left c.next.new.source)) (g.L.Sink.written c.answer.new.link) c.loop-raw.reader.given c.in-Ok.raw so_far (rw is at (c.next.ensures.request goes)) (c.next.ensures.told goes none) c.answer.result c.if-is_err.ensures.value c.answer.ensures.answered
+    let so_far = subst (λ (o : Option (List ℕ)). IsServing (g.D.Site.offers c.args.site.now) (g.L.Source.left c.args.link.now) (g.L.Sink.written c.args.link.now) (stream_of c.loop-raw.reader.held (g.L.Source.left c.loop-raw.link)) o c.loop-raw.reader.given (g.X.Asker.known c.args.asker.now) (g.X.Asker.known c.loop-raw.asker) (g.V.Reviewer.board c.args.reviewer.now) (g.V.Reviewer.board c.loop-raw.reviewer) (copier_of g.K.Copier.copies g.K.Copier.faults c.args.copier.now) (copier_of g.K.Copier.copies g.K.Copier.faults c.loop-raw.copier)) (sym (ap (λ (b : Beside). b.1) beside)) inv.serving in
+    serving_cut (g.D.Site.offers c.args.site.now) (g.X.Asker.known c.args.asker.now) (g.X.Asker.known c.loop-raw.asker) (g.X.Asker.known c.answer.new.asker) (g.V.Reviewer.board c.args.reviewer.now) (g.V.Reviewer.board c.loop-raw.reviewer) (g.V.Reviewer.board c.answer.new.reviewer) (copier_of g.K.Copier.copies g.K.Copier.faults c.args.copier.now) (copier_of g.K.Copier.copies g.K.Copier.faults c.loop-raw.copier) (copier_of g.K.Copier.copies g.K.Copier.faults c.answer.new.copier) (g.L.Source.left c.args.link.now) (g.L.Sink.written c.args.link.now) (stream_of c.loop-raw.reader.held (g.L.Source.left c.loop-raw.link)) (g.L.Sink.written c.next.new.source) (stream_of c.next.new.self.held (g.L.Source.left c.next.new.source)) (g.L.Sink.written c.answer.new.link) c.loop-raw.reader.given c.in-Ok.raw so_far (rw is at (c.next.ensures.request goes)) (c.next.ensures.told goes none) c.answer.result c.if-is_err.ensures.value c.answer.ensures.answered
 
 pub returns-then-is_err-clause-write_fault : goal.returns-then-is_err-clause-write_fault
 returns-then-is_err-clause-write_fault g c =
@@ -49,19 +49,19 @@ returns-then-raw-clause-served g c =
     let none : IsNone (stop_of c.next.result) = rw is refl in
     let law = g.met.L.Link.beside_source in
     let beside = sym (law c.next.new.source) ∙ (c.next.ensures.beside ∙ law c.loop-raw.link) in
-    let so_far = subst (λ (o : Option (List ℕ)). IsServing (g.D.Shutdown.offered c.args.shutdown.now) (g.L.Source.left c.args.link.now) (g.L.Sink.written c.args.link.now) (stream_of c.loop-raw.reader.held (g.L.Source.left c.loop-raw.link)) o c.loop-raw.reader.given (g.X.Asker.known c.args.asker.now) (g.X.Asker.known c.loop-raw.asker) (g.V.Reviewer.board c.args.reviewer.now) (g.V.Reviewer.board c.loop-raw.reviewer) (copier_of g.K.Copier.copies g.K.Copier.faults c.args.copier.now) (copier_of g.K.Copier.copies g.K.Copier.faults c.loop-raw.copier)) (sym (ap (λ (b : Beside). b.1) beside)) inv.serving in
-    serving_closed (g.D.Shutdown.offered c.args.shutdown.now) (g.X.Asker.known c.args.asker.now) (g.X.Asker.known c.loop-raw.asker) (g.X.Asker.known c.answer.new.asker) (g.V.Reviewer.board c.args.reviewer.now) (g.V.Reviewer.board c.loop-raw.reviewer) (g.V.Reviewer.board c.answer.new.reviewer) (copier_of g.K.Copier.copies g.K.Copier.faults c.args.copier.now) (copier_of g.K.Copier.copies g.K.Copier.faults c.loop-raw.copier) (copier_of g.K.Copier.copies g.K.Copier.faults c.answer.new.copier) (g.L.Source.left c.args.link.now) (g.L.Sink.written c.args.link.now) (stream_of c.loop-raw.reader.held (g.L.Source.left c.loop-raw.link)) (g.L.Sink.written c.next.new.source) (stream_of c.next.new.self.held (g.L.Source.left c.next.new.source)) (g.L.Sink.written c.answer.new.link) c.loop-raw.reader.given c.in-Ok.raw so_far (rw is at (c.next.ensures.request goes)) (c.next.ensures.told goes none) c.answer.result c.if-is_err.ensures.value c.answer.ensures.answered c.if-raw.true
+    let so_far = subst (λ (o : Option (List ℕ)). IsServing (g.D.Site.offers c.args.site.now) (g.L.Source.left c.args.link.now) (g.L.Sink.written c.args.link.now) (stream_of c.loop-raw.reader.held (g.L.Source.left c.loop-raw.link)) o c.loop-raw.reader.given (g.X.Asker.known c.args.asker.now) (g.X.Asker.known c.loop-raw.asker) (g.V.Reviewer.board c.args.reviewer.now) (g.V.Reviewer.board c.loop-raw.reviewer) (copier_of g.K.Copier.copies g.K.Copier.faults c.args.copier.now) (copier_of g.K.Copier.copies g.K.Copier.faults c.loop-raw.copier)) (sym (ap (λ (b : Beside). b.1) beside)) inv.serving in
+    serving_closed (g.D.Site.offers c.args.site.now) (g.X.Asker.known c.args.asker.now) (g.X.Asker.known c.loop-raw.asker) (g.X.Asker.known c.answer.new.asker) (g.V.Reviewer.board c.args.reviewer.now) (g.V.Reviewer.board c.loop-raw.reviewer) (g.V.Reviewer.board c.answer.new.reviewer) (copier_of g.K.Copier.copies g.K.Copier.faults c.args.copier.now) (copier_of g.K.Copier.copies g.K.Copier.faults c.loop-raw.copier) (copier_of g.K.Copier.copies g.K.Copier.faults c.answer.new.copier) (g.L.Source.left c.args.link.now) (g.L.Sink.written c.args.link.now) (stream_of c.loop-raw.reader.held (g.L.Source.left c.loop-raw.link)) (g.L.Sink.written c.next.new.source) (stream_of c.next.new.self.held (g.L.Source.left c.next.new.source)) (g.L.Sink.written c.answer.new.link) c.loop-raw.reader.given c.in-Ok.raw so_far (rw is at (c.next.ensures.request goes)) (c.next.ensures.told goes none) c.answer.result c.if-is_err.ensures.value c.answer.ensures.answered c.if-raw.true
 
-pub returns-then-has_begun-clause-served : goal.returns-then-has_begun-clause-served
-returns-then-has_begun-clause-served g c =
+pub returns-then-is_shut-clause-served : goal.returns-then-is_shut-clause-served
+returns-then-is_shut-clause-served g c =
     let inv = c.loop-raw.invariant in
     let is = c.in-Ok.ensures in
     let goes = inv.open_still in
     let none : IsNone (stop_of c.next.result) = rw is refl in
     let law = g.met.L.Link.beside_source in
     let beside = sym (law c.next.new.source) ∙ (c.next.ensures.beside ∙ law c.loop-raw.link) in
-    let so_far = subst (λ (o : Option (List ℕ)). IsServing (g.D.Shutdown.offered c.args.shutdown.now) (g.L.Source.left c.args.link.now) (g.L.Sink.written c.args.link.now) (stream_of c.loop-raw.reader.held (g.L.Source.left c.loop-raw.link)) o c.loop-raw.reader.given (g.X.Asker.known c.args.asker.now) (g.X.Asker.known c.loop-raw.asker) (g.V.Reviewer.board c.args.reviewer.now) (g.V.Reviewer.board c.loop-raw.reviewer) (copier_of g.K.Copier.copies g.K.Copier.faults c.args.copier.now) (copier_of g.K.Copier.copies g.K.Copier.faults c.loop-raw.copier)) (sym (ap (λ (b : Beside). b.1) beside)) inv.serving in
-    serving_shut (g.D.Shutdown.offered c.args.shutdown.now) (g.X.Asker.known c.args.asker.now) (g.X.Asker.known c.loop-raw.asker) (g.X.Asker.known c.answer.new.asker) (g.V.Reviewer.board c.args.reviewer.now) (g.V.Reviewer.board c.loop-raw.reviewer) (g.V.Reviewer.board c.answer.new.reviewer) (copier_of g.K.Copier.copies g.K.Copier.faults c.args.copier.now) (copier_of g.K.Copier.copies g.K.Copier.faults c.loop-raw.copier) (copier_of g.K.Copier.copies g.K.Copier.faults c.answer.new.copier) (g.L.Source.left c.args.link.now) (g.L.Sink.written c.args.link.now) (stream_of c.loop-raw.reader.held (g.L.Source.left c.loop-raw.link)) (g.L.Sink.written c.next.new.source) (stream_of c.next.new.self.held (g.L.Source.left c.next.new.source)) (g.L.Sink.written c.answer.new.link) c.loop-raw.reader.given c.in-Ok.raw so_far (rw is at (c.next.ensures.request goes)) (c.next.ensures.told goes none) c.answer.result c.if-is_err.ensures.value c.answer.ensures.answered c.if-raw.false (c.has_begun.ensures c.if-has_begun.true)
+    let so_far = subst (λ (o : Option (List ℕ)). IsServing (g.D.Site.offers c.args.site.now) (g.L.Source.left c.args.link.now) (g.L.Sink.written c.args.link.now) (stream_of c.loop-raw.reader.held (g.L.Source.left c.loop-raw.link)) o c.loop-raw.reader.given (g.X.Asker.known c.args.asker.now) (g.X.Asker.known c.loop-raw.asker) (g.V.Reviewer.board c.args.reviewer.now) (g.V.Reviewer.board c.loop-raw.reviewer) (copier_of g.K.Copier.copies g.K.Copier.faults c.args.copier.now) (copier_of g.K.Copier.copies g.K.Copier.faults c.loop-raw.copier)) (sym (ap (λ (b : Beside). b.1) beside)) inv.serving in
+    serving_shut (g.D.Site.offers c.args.site.now) (g.X.Asker.known c.args.asker.now) (g.X.Asker.known c.loop-raw.asker) (g.X.Asker.known c.answer.new.asker) (g.V.Reviewer.board c.args.reviewer.now) (g.V.Reviewer.board c.loop-raw.reviewer) (g.V.Reviewer.board c.answer.new.reviewer) (copier_of g.K.Copier.copies g.K.Copier.faults c.args.copier.now) (copier_of g.K.Copier.copies g.K.Copier.faults c.loop-raw.copier) (copier_of g.K.Copier.copies g.K.Copier.faults c.answer.new.copier) (g.L.Source.left c.args.link.now) (g.L.Sink.written c.args.link.now) (stream_of c.loop-raw.reader.held (g.L.Source.left c.loop-raw.link)) (g.L.Sink.written c.next.new.source) (stream_of c.next.new.self.held (g.L.Source.left c.next.new.source)) (g.L.Sink.written c.answer.new.link) c.loop-raw.reader.given c.in-Ok.raw so_far (rw is at (c.next.ensures.request goes)) (c.next.ensures.told goes none) c.answer.result c.if-is_err.ensures.value c.answer.ensures.answered c.if-raw.false (c.is_shut.ensures c.if-is_shut.true)
 
 pub loop-raw-preserved : goal.loop-raw-preserved
 loop-raw-preserved g c =
@@ -71,7 +71,7 @@ loop-raw-preserved g c =
     let none : IsNone (stop_of c.next.result) = rw is refl in
     let law = g.met.L.Link.beside_source in
     let beside = sym (law c.next.new.source) ∙ (c.next.ensures.beside ∙ law c.loop-raw.link) in
-    let so_far = subst (λ (o : Option (List ℕ)). IsServing (g.D.Shutdown.offered c.args.shutdown.now) (g.L.Source.left c.args.link.now) (g.L.Sink.written c.args.link.now) (stream_of c.loop-raw.reader.held (g.L.Source.left c.loop-raw.link)) o c.loop-raw.reader.given (g.X.Asker.known c.args.asker.now) (g.X.Asker.known c.loop-raw.asker) (g.V.Reviewer.board c.args.reviewer.now) (g.V.Reviewer.board c.loop-raw.reviewer) (copier_of g.K.Copier.copies g.K.Copier.faults c.args.copier.now) (copier_of g.K.Copier.copies g.K.Copier.faults c.loop-raw.copier)) (sym (ap (λ (b : Beside). b.1) beside)) inv.serving in
+    let so_far = subst (λ (o : Option (List ℕ)). IsServing (g.D.Site.offers c.args.site.now) (g.L.Source.left c.args.link.now) (g.L.Sink.written c.args.link.now) (stream_of c.loop-raw.reader.held (g.L.Source.left c.loop-raw.link)) o c.loop-raw.reader.given (g.X.Asker.known c.args.asker.now) (g.X.Asker.known c.loop-raw.asker) (g.V.Reviewer.board c.args.reviewer.now) (g.V.Reviewer.board c.loop-raw.reviewer) (copier_of g.K.Copier.copies g.K.Copier.faults c.args.copier.now) (copier_of g.K.Copier.copies g.K.Copier.faults c.loop-raw.copier)) (sym (ap (λ (b : Beside). b.1) beside)) inv.serving in
     let few : c.loop-raw.reader.given + 1 < 2 ^ 48 = few_left c.loop-raw.reader.given c.in-Ok.raw (rw is at (c.next.ensures.last goes)) c.if-raw.false in
     let same : g.L.Sink.faults c.next.new.source ≡ g.L.Sink.faults c.loop-raw.link = ap (λ (b : Beside). b.0) beside in
     record {
@@ -79,7 +79,7 @@ loop-raw-preserved g c =
       few = omega (arith, few, c.next.ensures.counts goes none);
       since = g.met.X.Asker.goes_on c.args.asker.now c.loop-raw.asker c.answer.new.asker inv.since c.answer.ensures.since;
       since_board = g.met.V.Reviewer.goes_on c.args.reviewer.now c.loop-raw.reviewer c.answer.new.reviewer inv.since_board c.answer.ensures.since_board;
-      serving = rw c.answer.ensures.left (serving_more (g.D.Shutdown.offered c.args.shutdown.now) (g.X.Asker.known c.args.asker.now) (g.X.Asker.known c.loop-raw.asker) (g.X.Asker.known c.answer.new.asker) (g.V.Reviewer.board c.args.reviewer.now) (g.V.Reviewer.board c.loop-raw.reviewer) (g.V.Reviewer.board c.answer.new.reviewer) (copier_of g.K.Copier.copies g.K.Copier.faults c.args.copier.now) (copier_of g.K.Copier.copies g.K.Copier.faults c.loop-raw.copier) (copier_of g.K.Copier.copies g.K.Copier.faults c.answer.new.copier) (g.L.Source.left c.args.link.now) (g.L.Sink.written c.args.link.now) (stream_of c.loop-raw.reader.held (g.L.Source.left c.loop-raw.link)) (g.L.Sink.written c.next.new.source) (stream_of c.next.new.self.held (g.L.Source.left c.next.new.source)) (g.L.Sink.written c.answer.new.link) c.loop-raw.reader.given c.in-Ok.raw so_far (rw is at (c.next.ensures.request goes)) (c.next.ensures.told goes none) c.next.new.self.given c.answer.result c.if-is_err.ensures.value (omega (arith, few, c.next.ensures.counts goes none)) c.answer.ensures.answered c.if-raw.false);
+      serving = rw c.answer.ensures.left (serving_more (g.D.Site.offers c.args.site.now) (g.X.Asker.known c.args.asker.now) (g.X.Asker.known c.loop-raw.asker) (g.X.Asker.known c.answer.new.asker) (g.V.Reviewer.board c.args.reviewer.now) (g.V.Reviewer.board c.loop-raw.reviewer) (g.V.Reviewer.board c.answer.new.reviewer) (copier_of g.K.Copier.copies g.K.Copier.faults c.args.copier.now) (copier_of g.K.Copier.copies g.K.Copier.faults c.loop-raw.copier) (copier_of g.K.Copier.copies g.K.Copier.faults c.answer.new.copier) (g.L.Source.left c.args.link.now) (g.L.Sink.written c.args.link.now) (stream_of c.loop-raw.reader.held (g.L.Source.left c.loop-raw.link)) (g.L.Sink.written c.next.new.source) (stream_of c.next.new.self.held (g.L.Source.left c.next.new.source)) (g.L.Sink.written c.answer.new.link) c.loop-raw.reader.given c.in-Ok.raw so_far (rw is at (c.next.ensures.request goes)) (c.next.ensures.told goes none) c.next.new.self.given c.answer.result c.if-is_err.ensures.value (omega (arith, few, c.next.ensures.counts goes none)) c.answer.ensures.answered c.if-raw.false);
       source = omega (arith, inv.source, c.next.ensures.later, c.answer.ensures.faults);
       sink = omega (arith, inv.sink, same, c.answer.ensures.cause.later);
     }
@@ -90,4 +90,4 @@ returns-in-Err-clause-served g c =
     let law = g.met.L.Link.beside_source in
     let beside = sym (law c.next.new.source) ∙ (c.next.ensures.beside ∙ law c.loop-raw.link) in
     let out : g.L.Sink.written c.next.new.source ≡ g.L.Sink.written c.loop-raw.link = ap (λ (b : Beside). b.1) beside in
-    serving_refused (g.D.Shutdown.offered c.args.shutdown.now) (g.X.Asker.known c.args.asker.now) (g.X.Asker.known c.loop-raw.asker) (g.V.Reviewer.board c.args.reviewer.now) (g.V.Reviewer.board c.loop-raw.reviewer) (copier_of g.K.Copier.copies g.K.Copier.faults c.args.copier.now) (copier_of g.K.Copier.copies g.K.Copier.faults c.loop-raw.copier) (g.L.Source.left c.args.link.now) (g.L.Sink.written c.args.link.now) (stream_of c.loop-raw.reader.held (g.L.Source.left c.loop-raw.link)) (g.L.Sink.written c.loop-raw.link) (g.L.Sink.written c.refuse.new.link) c.loop-raw.reader.given c.in-Err.why c.refuse.result inv.serving (rw c.in-Err.ensures at (c.next.ensures.stopped inv.open_still)) (rw out at c.refuse.ensures.refused)
+    serving_refused (g.D.Site.offers c.args.site.now) (g.X.Asker.known c.args.asker.now) (g.X.Asker.known c.loop-raw.asker) (g.V.Reviewer.board c.args.reviewer.now) (g.V.Reviewer.board c.loop-raw.reviewer) (copier_of g.K.Copier.copies g.K.Copier.faults c.args.copier.now) (copier_of g.K.Copier.copies g.K.Copier.faults c.loop-raw.copier) (g.L.Source.left c.args.link.now) (g.L.Sink.written c.args.link.now) (stream_of c.loop-raw.reader.held (g.L.Source.left c.loop-raw.link)) (g.L.Sink.written c.loop-raw.link) (g.L.Sink.written c.refuse.new.link) c.loop-raw.reader.given c.in-Err.why c.refuse.result inv.serving (rw c.in-Err.ensures at (c.next.ensures.stopped inv.open_still)) (rw out at c.refuse.ensures.refused)

@@ -11,7 +11,7 @@ invariant-loop-raw g l = record {
   few : l.reader.given < 2 ^ 48;
   since : g.X.Asker.since l.initial.asker l.asker;
   since_board : g.V.Reviewer.since l.initial.reviewer l.reviewer;
-  serving : IsServing (g.D.Shutdown.offered l.initial.shutdown) (g.L.Source.left l.initial.link) (g.L.Sink.written l.initial.link) (stream_of l.reader.held (g.L.Source.left l.link)) (g.L.Sink.written l.link) l.reader.given (g.X.Asker.known l.initial.asker) (g.X.Asker.known l.asker) (g.V.Reviewer.board l.initial.reviewer) (g.V.Reviewer.board l.reviewer) (copier_of g.K.Copier.copies g.K.Copier.faults l.initial.copier) (copier_of g.K.Copier.copies g.K.Copier.faults l.copier);
+  serving : IsServing (g.D.Site.offers l.initial.site) (g.L.Source.left l.initial.link) (g.L.Sink.written l.initial.link) (stream_of l.reader.held (g.L.Source.left l.link)) (g.L.Sink.written l.link) l.reader.given (g.X.Asker.known l.initial.asker) (g.X.Asker.known l.asker) (g.V.Reviewer.board l.initial.reviewer) (g.V.Reviewer.board l.reviewer) (copier_of g.K.Copier.copies g.K.Copier.faults l.initial.copier) (copier_of g.K.Copier.copies g.K.Copier.faults l.copier);
   source : g.L.Source.faults l.initial.link ≤ g.L.Source.faults l.link;
   sink : g.L.Sink.faults l.initial.link ≤ g.L.Sink.faults l.link;
 }
